@@ -1,4 +1,4 @@
--- Where an engine fails, it tells a file that its line names, or that writing failed.
+-- The message of an engine that fails names a file of the command line, or says that writing failed.
 use Rattle.std.proofs.Common.{◌≡◌, Bool, true, false, ℕ, List, [], ◌∷◌, map, Option, Some, None, inl, inr, refl}
 use Rattle.std.proofs.Common.{subst, if◌then◌else◌}
 use Rattle.std.specs.Prelude.{◌⊎◌}
@@ -12,7 +12,7 @@ use Rattle.autolock.specs.Asked.{NamesOneOf}
 abbrev pub names_of : List Reading → List (List ℕ)
 names_of files = map (λ (f : Reading). f.name) files
 
--- the first file that could not be read is one of them
+-- the first file that could not be read is one of the files that the command line names
 unread_named : (Told : List ℕ → Type 0) (files : List Reading) (file : Reading) → first_unread files ≡ Some file →
     Told (cannot_read file.name) → NamesOneOf Told (names_of files)
 unread_named Told [] file is told = absurd cc

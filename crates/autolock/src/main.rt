@@ -119,8 +119,8 @@ fn run_line<R: Threads + Wait + Sync, O: Write, E: Write>(
 }
 
 /// Prints the report of `clap` on the command line: help and the version on standard output, anything else on standard
-/// error. It ends with status 4 where memory ran out, with 0 or 3 where help or the version was asked for, else with 2.
-/// The streams get at most a message, where memory ran out or the output could not be written.
+/// error. It ends with status 4 where memory ran out, with 0 or 3 where help or the version was asked for, and
+/// otherwise with 2. The streams get at most a message, where memory ran out or the output could not be written.
 fn tell_words<O: Write, E: Write>(
     rt: &HostRuntime,
     error: &Error,

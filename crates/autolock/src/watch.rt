@@ -28,8 +28,8 @@ impl Work {
         self.parker.unpark();
     }
 
-    /// Once the work takes longer than two seconds, writes once a second how many seconds it has taken, on one line, which
-    /// is erased at its end. Ignores what can't be written.
+    /// Once the work takes longer than two seconds, writes once a second how many seconds it has taken, on one line,
+    /// which is erased at its end. Ignores what can't be written.
     pub fn watch<R: Wait>(&self, rt: &R, err: &mut Stderr) {
         let mut seconds: u64 = 0;
         for _ in rt.forever() {

@@ -1,4 +1,4 @@
--- What answers a request for the C of a program answers as `emit` does.
+-- An answer to a request for a program's C is an answer of `emit`.
 use Rattle.std.proofs.Common.{◌≡◌, ℕ, Bool, false, List, [], Result, Ok, Err, IfOk}
 use Rattle.driver.specs.Answers.{TextAnswers}
 use Rattle.driver.specs.Emissions.{IsEmitted}

@@ -1,4 +1,4 @@
--- What names of C may begin with is ASCII, and so UTF-8.
+-- The prefixes that names of C may have are ASCII, and therefore UTF-8.
 use Rattle.std.proofs.Common.{◌≡◌, ◌<◌, true, ℕ, List, [], ◌∷◌, zero, suc, arith}
 use Rattle.std.proofs.lemmas.Str.{IsUtf8-from_ascii}
 use Rattle.std.specs.Char.{is_ascii_alphanumeric}

@@ -25,8 +25,8 @@ pub record IsGiven (Answers : Status → List ℕ → List ℕ → Type 0) (stat
 abbrev pub IsNothing : List ℕ → List ℕ → ℕ → Type 0
 IsNothing old new needed = (new ≡ old) × (needed ≡ 0)
 
--- the answers of `emit` for a text without a file name: its C, or the header of its C, with this prefix, without the lines
--- of the text
+-- the answers of `emit` for a text without a file name: its C, or the header of its C, with this prefix, without the
+-- lines of the text
 pub record EmitAnswers (header : Bool) (prefix text : List ℕ) (status : Status) (out err : List ℕ) : Type 0 where
   pub emission : Emission
   pub part : emission.header ≡ header

@@ -40,8 +40,8 @@ impl Answer {
         Ok(Answer { status, text })
     }
 
-    /// Copies as much of the text to `out` as fits, and sets `needed` to the length of all of it, in bytes. Returns the exit
-    /// status.
+    /// Copies as much of the text to `out` as fits, and sets `needed` to the length of all of it, in bytes. Returns the
+    /// exit status.
     fn give(&self, out: &mut [u8], needed: &mut usize) -> u8
         ensures code { result ≡ exit_status self.now.status }
         ensures whole { needed.new ≡ length self.now.text.items }

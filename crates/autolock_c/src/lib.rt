@@ -27,12 +27,12 @@ use asking::{emitted, explained, reported};
 use driver_words::{Color, Report};
 use std::alloc::Global;
 
-/// Writes the order in which the program of `text` acquires its locks, and the locks that it acquires before each statement,
-/// as `check` does; or the line of the text's fault, with an empty file name.
+/// Writes the order in which the program of `text` acquires its locks, and the locks that it acquires before each
+/// statement, as `check` does; or the line of the text's fault, with an empty file name.
 ///
 /// `out` gets as much of that as fits, and `needed` the length of all of it, in bytes. Returns the exit status of the
-/// command: 0 where the text is accepted, 1 where it has a fault, 4 where memory was refused: then `out` is unchanged, and
-/// `needed` is 0. The fault of a text of more than 1,048,576 bytes says so.
+/// command: 0 where the text is accepted, 1 where it has a fault, 4 where memory was refused: then `out` is unchanged,
+/// and `needed` is 0. The fault of a text of more than 1,048,576 bytes says so.
 #[unsafe(no_mangle)]
 pub extern "C" fn autolock_check(
     alloc: Global,
@@ -49,8 +49,8 @@ pub extern "C" fn autolock_check(
 }
 
 /// Explains the fault of the program of `text`, with its place in the text and a suggested fix; or reports that it is
-/// accepted, with the order of its lock classes and warnings: a JSON object in one line, as `explain --json` does, whose
-/// `file` is empty.
+/// accepted, with the order of its lock classes and warnings: a JSON object in one line, as `explain --json` does,
+/// whose `file` is empty.
 ///
 /// Writes to `out` and `needed`, and returns, as [`autolock_check`] does.
 #[unsafe(no_mangle)]
@@ -67,12 +67,12 @@ pub extern "C" fn autolock_explain(
     give(&explained(alloc, text), out, needed)
 }
 
-/// Writes the sections of the program of `text` in C, with their locks placed, as `emit --prefix PREFIX` does; or the line
-/// of the text's fault, with an empty file name.
+/// Writes the sections of the program of `text` in C, with their locks placed, as `emit --prefix PREFIX` does; or the
+/// line of the text's fault, with an empty file name.
 ///
-/// Writes to `out` and `needed`, and returns, as [`autolock_check`] does, or returns 2 where names of C may not begin with
-/// `prefix`: it has to be a letter, then letters and digits, at most 32 in all, and neither `AL` nor `autolock`. Then `out`
-/// is unchanged, and `needed` is 0.
+/// Writes to `out` and `needed`, and returns, as [`autolock_check`] does, or returns 2 where names of C may not begin
+/// with `prefix`: it has to be a letter, then letters and digits, at most 32 in all, and neither `AL` nor `autolock`.
+/// Then `out` is unchanged, and `needed` is 0.
 #[unsafe(no_mangle)]
 pub extern "C" fn autolock_emit(
     alloc: Global,

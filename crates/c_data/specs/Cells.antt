@@ -1,5 +1,5 @@
--- The function of a program's C text that writes the cells as the history has them: a global by itself, an array and a pool
--- by a loop over the index i.
+-- The function of a program's C text that writes the cells as the history has them: a global by itself, an array and a
+-- pool by a loop over the index i.
 use Rattle.std.specs.Prelude.{ℕ, ◌==◌, List, [], ◌++◌, codes, string_bytes}
 use Rattle.std.specs.List.{flat_map}
 use Rattle.std.specs.Option.{option_map_or}

@@ -35,7 +35,7 @@ object_pointer prefix x = joined (codes "struct " ∷ prefix ∷ codes "_" ∷ s
 
 -- ---- the test whether a pointer is NULL or one to an object of the struct
 
--- for an address in a pool: whether it is that of a member
+-- whether an address in a pool is that of a member
 unfoldable pub pool_tested : Pool → List ℕ
 pool_tested pool =
     codes "  if (" ++ within_text pool

@@ -293,7 +293,7 @@ fn push_object_named(
     }
 }
 
-/// Appends the statements that open all locks, and set all else to 0 or NULL.
+/// Appends the statements that open all locks, and set everything else to 0 or NULL.
 fn push_zeros(out: &mut String, program: &Typed) -> Result<(), AllocError>
     ensures { OnOk result (AddsText (text.zeros_text program.now) out.old out.new) }
 {

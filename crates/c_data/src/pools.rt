@@ -234,7 +234,8 @@ impl DataWriter<'_> {
         Ok(())
     }
 
-    /// Appends the functions that find objects and write their names, for each struct. The one error is a refused growth.
+    /// Appends the functions that find objects and write their names, for each struct. The one error is a refused
+    /// growth.
     #[tactic(auto, unfolding(crate::specs::Pools::objects_text))]
     pub fn push_objects(&self, out: &mut String) -> Result<(), AllocError>
         ensures { OnOk result (AddsText

@@ -367,7 +367,8 @@ impl DataWriter<'_> {
         self.push_members_declared(out)
     }
 
-    /// Appends all types, and the functions that the file offers besides the sections. The one error is a refused growth.
+    /// Appends all types, and the functions that the file offers besides the sections. The one error is a refused
+    /// growth.
     #[tactic(auto, unfolding(crate::specs::Types::types_text))]
     pub fn push_types(&self, out: &mut String) -> Result<(), AllocError>
         ensures { OnOk result (AddsText

@@ -3,7 +3,7 @@ use Rattle.std.proofs.Common.{◌≡◌, ◌∙◌, ◌+◌, ◌<◌, ℕ, zero,
 use Rattle.code.specs.Listing.{text_at}
 use Rattle.c_statements.specs.Acquires.{numbered}
 
--- of items with their numbers, the first of which is numbered so
+-- the same for numbered items, of which the first has the number `k`
 numbered-step : {A : Type 0} (text : ℕ → A → List ℕ) (k i : ℕ) (xs : List A) → i < length xs →
     numbered text k (drop i xs) ≡ text_at (text k) xs i ++ numbered text (k + 1) (drop (i + 1) xs)
 numbered-step text k i [] h = absurd (omega arith)

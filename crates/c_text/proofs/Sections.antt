@@ -1,4 +1,4 @@
--- One section more.
+-- One section more, for texts of numbered sections.
 use Rattle.std.proofs.Common.{◌≡◌, ◌∙◌, ◌+◌, ◌<◌, ◌++◌, ◌∷◌, [], ℕ, zero, suc, List, Bool, Option, Some, None, length, map, drop, refl, sym, ap, arith, add-one, append_assoc}
 use Rattle.std.specs.Prelude.{codes, slice_get, option_map, option_and_then}
 use Rattle.std.specs.Option.{option_map_or}
@@ -28,7 +28,7 @@ numbered_at text [] k j lt = absurd (omega (arith, lt))
 numbered_at text (x ∷ xs) zero j lt = refl
 numbered_at text (x ∷ xs) (suc k) j lt = numbered_at text xs k j (omega (arith, lt))
 
--- the text of a section, and then that of those behind it
+-- the text of one section, followed by the text of the sections after it
 pub numbered_on : (text : ℕ → Section → List ℕ) (program : Typed) (k : ℕ) → k < length program.sections.items →
     (old new : List ℕ) → new ≡ old ++ at_number text program k →
     new ++ numbered text (k + 1) (drop (k + 1) program.sections.items) ≡ old ++ numbered text k (drop k program.sections.items)
@@ -51,7 +51,7 @@ line_there text ps (Some point) = ap (option_map line_of) (slice_get-map (positi
     read None = refl
     read (Some p) = refl
 
--- what stands ahead of an instruction, by the name of a file and the places of a section in it
+-- the line directive before an instruction, by the name of a file and the places of the section in it
 abbrev pub mark_by : List ℕ → SectionPlaces → List ℕ → ℕ → List ℕ
 mark_by name places begins place = directive_if name (goes_on begins place) (option_map line_of (position_at places begins place))
 
@@ -71,7 +71,7 @@ module _ (program : Typed) (lists : List (List (List ℕ))) (k : ℕ) (listed : 
   printing : (b : Bool) → b ≡ prints listed.code.now.instructions.items → b ≡ is_printing lists k listed.section.now
   printing b printed = printed ∙ ap prints (is.code ∙ ap (λ (ls : List (List ℕ)). section_code ls listed.section.now) is.own)
 
-  -- written with a prefix and a program that are these
+  -- the texts of section `k`, written with an equal prefix and for an equal program
   module _ (prefix px : List ℕ) (p : Typed) (same_prefix : px ≡ prefix) (same_program : p ≡ program) where
     pub prototype_is : (b : Bool) → b ≡ prints listed.code.now.instructions.items →
         prototype_text px p listed.section.now b ++ codes ";\n" ≡ at_number (prototype_of prefix program lists) program k
@@ -95,7 +95,7 @@ module _ (program : Typed) (lists : List (List (List ℕ))) (k : ℕ) (listed : 
     unfolding section_of
     section_is = written None ∙ sym (there (section_of prefix program lists))
 
-    -- with the lines of the program's file
+    -- the same for the section's text with line directives of the program's file
     pub marked_is : (source : Source) (places : SectionPlaces) → PlacesOf source.text listed.section.now places →
         section_text px p listed.section.now (lists_of listed) (Some (mark_by source.name places listed.code.now.begins.items))
         ≡ at_number (marked_of prefix program lists source) program k

@@ -1,5 +1,5 @@
--- The C text of a whole program: the header, which has the parts that another file can use, and the file, which begins with
--- the header.
+-- The C text of a whole program: the header, which has the parts that another file can use, and the file, which begins
+-- with the header.
 use Rattle.std.specs.Prelude.{ℕ, Bool, List, [], ◌∷◌, ◌++◌, Option, Some, None, option_map, codes}
 use Rattle.core_lang.specs.declared.tree.Section.{Section}
 use Rattle.core_lang.specs.declared.typed.Typed.{Typed}

@@ -3,9 +3,9 @@ use Rattle.std.specs.Prelude.{ℕ, List, [], ◌∷◌, codes}
 use Rattle.std.specs.List.{flat_map}
 use Rattle.code.specs.Listing.{line}
 
--- the types of all programs, and the words that open, close, acquire and release a lock. A reader checks that the words are
--- those of POSIX threads, unless others were set before; that a result is a number of 64 bits; and that the buffer has room
--- for 256 prints, the most that one run of a section can make
+-- the types of all programs, and the words that open, close, acquire and release a lock. A reader checks that the words
+-- are those of POSIX threads, unless others were set before, that a result is a number of 64 bits, and that the buffer
+-- has room for 256 prints, the most that one run of a section can make
 unfoldable pub types_text : List ℕ
 types_text =
     flat_map line
@@ -60,10 +60,10 @@ closed_text =
     ∷ codes "#endif"
     ∷ [])
 
--- sums, differences and products of signed 64-bit numbers. A reader checks that each returns 1 exactly where 64 bits do not
--- hold the result, and otherwise writes it to r, by the compiler's built-ins and by tests that do not overflow; that AL_TRAP
--- sets `trap` and goes to `end`, and the words below it do so where their comments say. The disabled warnings are about
--- divisions after a test of their divisor
+-- sums, differences and products of signed 64-bit numbers. A reader checks that each returns 1 exactly where 64 bits do
+-- not hold the result, and otherwise writes it to r, by the compiler's built-ins and by tests that do not overflow;
+-- that AL_TRAP sets `trap` and goes to `end`, and the words below it do so where their comments say. The disabled
+-- warnings are about divisions after a test of their divisor
 unfoldable pub arithmetic_text : List ℕ
 arithmetic_text =
     flat_map line
@@ -119,9 +119,9 @@ arithmetic_text =
     ∷ codes "#endif"
     ∷ [])
 
--- lists of locks, some of them NULL. A reader checks that AL_ORDER puts two locks in the order of their addresses; that
--- `autolock_drop` removes from k locks those that are among the p held ones, and all but the last of equal ones; that
--- `autolock_order` sorts, and `autolock_lock` acquires each lock that is not NULL
+-- lists of locks, some of them NULL. A reader checks that AL_ORDER puts two locks in the order of their addresses, and
+-- that `autolock_drop` removes from k locks those that are among the p held ones, and all but the last of equal ones.
+-- `autolock_order` sorts the locks, and `autolock_lock` acquires each lock that is not NULL
 unfoldable pub locking_text : List ℕ
 locking_text =
     flat_map line

@@ -1,5 +1,5 @@
--- The functions of a program's C text that write a history: a call's line, the cells, and the functions of the recorder that
--- a caller uses.
+-- The functions of a program's C text that write a history: a call's line, the cells, and the functions of the recorder
+-- that a caller uses.
 use Rattle.std.specs.Prelude.{ℕ, ◌==◌, not, List, [], ◌∷◌, ◌++◌, codes, string_bytes, Option, Some, None}
 use Rattle.std.specs.List.{flat_map}
 use Rattle.std.specs.Fmt.{decimal}
@@ -126,8 +126,8 @@ seat_text prefix =
     ∷ codes "State *s)\n{\n  struct autolock_seat *seat = s->history != NULL ? autolock_sit(s->history, -1) : NULL;\n"
     ∷ codes "  return seat != NULL ? seat->number : -1;\n}\n" ∷ [])
 
--- writes the history in format 2. A reader checks that nothing is written unless all places have their entries, and that
--- each call is written with its thread, its number and the length that it noted
+-- writes the history in format 2. A reader checks that nothing is written unless all places have their entries, and
+-- that each call is written with its thread, its number and the length that it noted
 unfoldable pub write_text : List ℕ → List ℕ
 write_text prefix =
     joined (codes "int " ∷ prefix ∷ codes "HistoryWrite(FILE *f, struct " ∷ prefix

@@ -1,6 +1,6 @@
--- The program that runs the threads, which the C text has where AL_MAIN is defined. Run with the word `serial`, it makes the
--- calls thread after thread and writes their history; otherwise it makes the calls of each thread in a thread of its own,
--- and writes the cells or, where AL_HISTORY is defined too, the history.
+-- The program that runs the threads, which the C text has where AL_MAIN is defined. Run with the word `serial`, it
+-- makes the calls thread after thread and writes their history; otherwise it makes the calls of each thread in a thread
+-- of its own, and writes the cells or, where AL_HISTORY is defined too, the history.
 use Rattle.std.specs.Prelude.{ℕ, Bool, List, [], ◌∷◌, ◌++◌, codes, string_bytes, Option, Some, None}
 use Rattle.std.specs.List.{flat_map}
 use Rattle.std.specs.Fmt.{decimal}
@@ -145,8 +145,8 @@ call_start prefix =
 
 -- ---- the run
 
--- the function of a thread: the calls of its script; where there is a history, its seat has the script's number. A reader
--- checks that it begins at the start of the script and stops at section -1
+-- the function of a thread: the calls of its script; where there is a history, its seat has the script's number. A
+-- reader checks that it begins at the start of the script and stops at section -1
 unfoldable pub run_text : List ℕ → List ℕ
 run_text prefix =
     joined (codes "static struct " ∷ prefix ∷ codes "State " ∷ prefix

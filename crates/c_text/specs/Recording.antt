@@ -1,5 +1,6 @@
--- The recorder, line by line: the part of the C text, the same in all programs, that keeps a history in memory. Each thread
--- has a seat for its calls; an entry's place in the history is drawn from one counter while the call has all its locks.
+-- The recorder, line by line: the part of the C text, the same in all programs, that keeps a history in memory. Each
+-- thread has a seat for its calls; an entry's place in the history is drawn from one counter while the call has all its
+-- locks.
 use Rattle.std.specs.Prelude.{ℕ, List, [], ◌∷◌, ◌++◌, codes}
 use Rattle.std.specs.List.{flat_map}
 use Rattle.code.specs.Listing.{line}
@@ -20,8 +21,8 @@ writing_text =
     ∷ codes "#endif"
     ∷ [])
 
--- the structs of a history. A reader checks that an entry with 8 arguments and 256 prints takes less than AL_ENTRY bytes,
--- and that the length has a cache line of its own
+-- the structs of a history. A reader checks that an entry with 8 arguments and 256 prints takes less than AL_ENTRY
+-- bytes, and that the length has a cache line of its own
 unfoldable pub entries_text : List ℕ
 entries_text =
     flat_map line
@@ -76,8 +77,8 @@ entries_text =
     ∷ codes "static _Thread_local struct { int64_t history; struct autolock_seat *seat; } autolock_here;"
     ∷ [])
 
--- the functions that open and close a history. A reader checks that no other history has the same number, and that closing
--- frees all memory
+-- the functions that open and close a history. A reader checks that no other history has the same number, and that
+-- closing frees all memory
 unfoldable pub opening_text : List ℕ
 opening_text =
     flat_map line
@@ -112,7 +113,8 @@ opening_text =
     ∷ [])
 
 -- the functions for seats. A reader checks that `autolock_sit` returns the seat of the calling thread, with room for an
--- entry; that only it adds seats and blocks, under the lock; and that nothing is added once memory was refused
+-- entry, that only this function adds seats and blocks, under the lock, and that nothing is added once memory was
+-- refused
 unfoldable pub seats_text : List ℕ
 seats_text =
     flat_map line
@@ -170,9 +172,9 @@ seats_text =
     ∷ codes "}"
     ∷ [])
 
--- the functions for calls. A reader checks that `autolock_begin` notes a length that the history has while it runs, and puts
--- the arguments where `autolock_ended` leaves them; that `autolock_ended` draws a place that no other entry has; and that
--- both write only to the room that `autolock_sit` has made
+-- the functions for calls. A reader checks that `autolock_begin` notes a length that the history has while the function
+-- runs, and puts the arguments where `autolock_ended` leaves them. `autolock_ended` draws a place that no other entry
+-- has. Both write only to the room that `autolock_sit` has made
 unfoldable pub recording_text : List ℕ
 recording_text =
     flat_map line
@@ -212,8 +214,8 @@ recording_text =
     ∷ codes "}"
     ∷ [])
 
--- the functions that read a history. A reader checks that `autolock_places` returns NULL unless each place has one entry,
--- and that the entries of a seat are read in their order
+-- the functions that read a history. A reader checks that `autolock_places` returns NULL unless each place has one
+-- entry, and that the entries of a seat are read in their order
 unfoldable pub reading_text : List ℕ
 reading_text =
     flat_map line

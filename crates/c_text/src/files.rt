@@ -362,8 +362,8 @@ impl<'a> FileText<'a> {
     }
 }
 
-/// The parts of a program that another C or C++ file can use: its types, the functions that open and close the state, and
-/// the prototypes of its sections. Each name begins with `prefix`, a word of letters and digits.
+/// The parts of a program that another C or C++ file can use: its types, the functions that open and close the state,
+/// and the prototypes of its sections. Each name begins with `prefix`, a word of letters and digits.
 ///
 /// # Errors
 ///
@@ -382,9 +382,9 @@ pub fn header<'a>(alloc: Global, program: &'a Program, prefix: &'a str) -> Resul
     Ok(out)
 }
 
-/// The C file of a program, which begins with the header: all functions, where AL_HISTORY is defined also the recorder of a
-/// history of the calls, where AL_MAIN is defined also a program that runs the threads. Where `source` is given, `#line`
-/// directives give the C of each statement the statement's line.
+/// The C file of a program, which begins with the header: all functions, where AL_HISTORY is defined also the recorder
+/// of a history of the calls, where AL_MAIN is defined also a program that runs the threads. Where `source` is given,
+/// `#line` directives give the C of each statement the statement's line.
 ///
 /// # Errors
 ///

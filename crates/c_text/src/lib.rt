@@ -3,8 +3,8 @@
 //!
 //! - [`header`]: the parts that another file can use: types, the functions that open and close the state, prototypes of
 //!   sections.
-//! - [`file`]: all functions; where AL_HISTORY is defined, the recorder of a history of the calls; where AL_MAIN is defined,
-//!   a program that runs the threads. Where a [`SourceFile`] is given, the C of each statement gets the statement's line.
+//! - [`file`]: all functions. If AL_HISTORY is defined, they include the recorder of a history of the calls, and if AL_MAIN
+//!   is defined, a program that runs the threads. If a [`SourceFile`] is given, the C of each statement names its line.
 //!
 //! `specs/Files.antt` defines both texts byte for byte, from the texts of sections that `c_sections` defines and those of
 //! types, the state, pools and cells that `c_data` defines. `Fixed` has the parts that are the same in all programs,

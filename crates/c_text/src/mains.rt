@@ -328,8 +328,8 @@ impl FileWriter<'_> {
         push_prints_written(out, prints)
     }
 
-    /// Appends the case of the section with the number `number`: its call, and the lines of the call. The one error is a
-    /// refused growth.
+    /// Appends the case of the section with the number `number`: its call, and the lines of the call. The one error is
+    /// a refused growth.
     pub fn push_case(
         &self,
         out: &mut String,

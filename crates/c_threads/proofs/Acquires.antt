@@ -1,4 +1,4 @@
--- An acquire takes the locks that are asked for: its runs, one after another.
+-- An acquire takes the requested locks, run after run.
 use Rattle.std.proofs.Common.{◌≡◌, ◌⊎◌, ◌<◌, ◌≤◌, ℕ, zero, suc, ◌+◌, List, [], ◌∷◌, ◌++◌, map, length, Option}
 use Rattle.std.proofs.Common.{Some, None, Bool, true, false, slice_get, refl, sym, ap, ◌∙◌, subst, arith, inl, inr}
 use Rattle.std.proofs.Common.{if◌then◌else◌, append_assoc}
@@ -65,7 +65,7 @@ module _ (program : Typed) (section : Section) (locals : List Value) (ranks : Li
       (i k : ℕ) (a b : LockPath) → slice_get paths i ≡ Some a → slice_get paths k ≡ Some b →
       slice_index ranks a.class ≡ slice_index ranks b.class → a.class ≡ b.class
 
-  -- what holds of the notes, ahead of a run and after it
+  -- the invariant of the notes, before a run and after it
   pub record IsGood (notes : List Pointer) (held : List Lock) : Type 0 where
     pub are : NotesAre notes held
     pub long : length notes ≡ length paths
@@ -81,13 +81,13 @@ module _ (program : Typed) (section : Section) (locals : List Value) (ranks : Li
       by None e = tt
       by (Some lock) e = class_once paths k lock.class class (classes k lock e) (of k (in_first k ks))
 
-    -- ---- which of these are held
+    -- ---- the held locks of a class
 
     module _ (class : ℕ) (notes : List Pointer) (held : List Lock) (good : IsGood notes held) where
       abbrev cls : List ℕ
       cls = of_class class 0 paths
 
-      -- where a held lock of the class is noted
+      -- the note of a held lock of the class
       at_class : (lock : Lock) → lock.class ≡ class → Contains held lock →
           (k : ℕ) × Contains cls k × (slice_get notes k ≡ Some (Some lock))
       at_class lock c h =
@@ -288,7 +288,7 @@ module _ (program : Typed) (section : Section) (locals : List Value) (ranks : Li
 
     -- ---- all runs
 
-    -- what is taken of the later ones is the same with those of a class held
+    -- held locks of one class do not change whether a lock of another class is held
     among_more : (held xs : List Lock) (class : ℕ) (lock : Lock) → ((l : Lock) → Contains xs l → l.class ≡ class) →
         (lock.class ≡ class → ⊥) → among (held ++ xs) lock ≡ among held lock
     among_more held xs class lock of other = elim (cases_Bool (among held lock)) [
@@ -431,7 +431,7 @@ module _ (program : Typed) (section : Section) (locals : List Value) (ranks : Li
           ];
         }
 
-    -- ---- what is asked for
+    -- ---- the requested locks
 
     asked_is : (held : List Lock) (list : List ℕ) → asked ranks held (its list) ≡ to_ask program section ranks held locals list
     asked_is held [] = refl

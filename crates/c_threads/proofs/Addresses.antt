@@ -57,7 +57,7 @@ use Rattle.c_threads.specs.Locking.{followed, address_from, address_by, address,
 -- ---- where a stable path leads
 
 module _ (program : Typed) (types : List ValueType) where
-  -- it begins at a local of a reference type, and its finals lead to the struct
+  -- the path begins at a local of a reference type, and its finals lead to the struct `s`
   record IsTo (path : StablePath) (s : ℕ) : Type 0 where
     from : ℕ
     root : slice_get types path.root ≡ Some (Reference from)
@@ -148,7 +148,7 @@ module _ (program : Typed) (section : Section) where
       )
   of_owner (Chain' p first m rest) owner s is h = absurd (none-some owner is)
 
-  -- an initialiser has the type of its local; where null stands for a helper's value, nothing is said
+  -- an initialiser has the type of its local; a null that stands for a helper's value is exempt
   abbrev IsTypedBinding : Binding → Type 0
   IsTypedBinding b = (b.value ≡ Null) ⊎ GivesLocal program types b.local b.value
 
@@ -220,7 +220,7 @@ module _ (program : Typed) (section : Section) where
       leads = finals_append program types path.finals p.through.items leads.from s to leads.leads ends.1;
     }
 
-    -- what protects the field of a struct
+    -- the lock that protects a field of a struct
     ends_at : (s f : ℕ) (p : Protection) (c : LockClass) → protection_of program s f ≡ Some p →
         slice_get program.classes.items p.class ≡ Some c →
         EndsAt program s p.through.items c
@@ -281,7 +281,7 @@ module _ (program : Typed) (section : Section) where
         let typed = each_at (IsTyped program types) (accesses_at point) a.0 (accesses_typed program types point point_typed) a.1 in
         of_target has.0 a.0.target path has.1 typed a.2
 
-    -- ---- which address that is
+    -- ---- the address to which a path leads
 
     followed_is : (finals : List ℕ) (o s to : ℕ) → struct_of program.shape o ≡ Some s → FinalsLead program s finals to →
         (n : ℕ) × (followed program.shape (Some o) finals ≡ Some n) × (led_to program.shape o finals ≡ Some n)
@@ -312,7 +312,7 @@ module _ (program : Typed) (section : Section) where
       abbrev made : ℕ → ℕ → Lock
       made class o = record { class = class; object = o }
 
-      -- the address, and the lock, by what the root holds
+      -- the address and the lock, by the value of the root
       by_value : (path : LockPath) (from s : ℕ) (v : Value) → HasType program.shape (Reference from) v →
           FinalsLead program from path.finals s →
           lookup (pointer_in (Some v)) (address_from program.shape path)
@@ -334,7 +334,7 @@ module _ (program : Typed) (section : Section) where
           ∙ sym (ap (λ (o : Option Value). Some (option_map (made path.class)
           (lookup o (λ w. lookup (named w) (λ n. led_to program.shape n path.finals))))) v.1)
 
-      -- of a lock path of the section
+      -- the same for each lock path of the section
       pub addressed : UsedAreListed → HasSection program section → (k : ℕ) (path : LockPath) →
           slice_get (lock_paths program section) k ≡ Some path →
           address_at program section locals k ≡ Some (lock_numbered program section locals k)

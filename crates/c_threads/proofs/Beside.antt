@@ -38,7 +38,7 @@ use Rattle.c_threads.proofs.Shared.{Sees, Kept, over, Alike, runs_alike}
 
 -- ---- a call beside a section
 
--- the section with this operand stack, and these cells held
+-- the section of the call `c`, with this operand stack and these held cells
 abbrev pub in_world : CallInC → List Lock → List Lock → List Value → HeldCells → Activation
 in_world c locked pending stack memory = record {
   call = c.call;
@@ -50,7 +50,7 @@ in_world c locked pending stack memory = record {
   outcome = None;
 }
 
--- a call that makes these calls of AL_LOCK, and goes on with a group
+-- a call that has these calls of AL_LOCK to make, and then goes on with a group
 pub record GoesOn (plan : Plan) (cells : List Value) (locked : List Lock) (c : CallInC) (pending : List Lock) (a : Activation) : Type 0 where
   pub stack : List Value
   pub memory : HeldCells
@@ -85,7 +85,7 @@ module _ (plan_law : SectionsHavePlans ℕ) where
 
 -- ---- one group
 
--- of what an instruction does to the section, beside where the group leads
+-- the effect of an instruction on the section, and where the group leads
 module _ (plan : Plan) (cells : List Value) (memory : HeldCells) (locked : List Lock) (c : CallInC) where
   abbrev pub Behind : Activation → After (List Value) → Type 0
   Behind a (Next g) = (go : GoesOn plan g.memory locked (come c (c.place + 1) g) [] a) × Kept cells memory g.memory go.memory
@@ -102,11 +102,11 @@ module _ (laws : NotesStay) (plan : Plan) (ok : IsCompiled plan) (cells : List V
   spots_here = spots_at plan c.call.section
 
   module _ (well : IsWell plan here) (noted : IsNoted plan here c.notes) where
-    -- what is noted stays so, where no locks are asked for
+    -- an instruction that asks for no locks keeps what is noted
     stays : ((point : ℕ) → next_effect plan here ≡ Asks point → ⊥) → IsNoted plan (instructed plan here (next_effect plan here)) c.notes
     stays none = laws.moves plan here c.notes ok well noted refl refl none
 
-    -- the section has come to a place
+    -- the section after an instruction that leads to a place
     moved_to : (place : ℕ) (next : Machine HeldCells) (f : Frame HeldCells) (mem : List Value) (ops : List Operand) (left : List Value) →
         next_effect plan here ≡ Moves next → next ≡ machine_of place left f → IsLow ops → Hold ops f.variables f.temporaries left →
         (spots_here place).operands ≡ ops → Kept cells memory mem f.memory →
@@ -192,7 +192,7 @@ module _ (laws : NotesStay) (plan : Plan) (ok : IsCompiled plan) (cells : List V
           (begin_group load_from store_to plan.program (group_in plan c.call.section c.place i) (frame c cells)) s.operands effect s.low s.beside s.leads
           (λ u. some (effect ∙ u)) (group_alike (group_in plan c.call.section c.place i)))
 
-      -- an acquire: what is noted after it, and which calls of AL_LOCK are to be made
+      -- an acquire: the notes after it, and the calls of AL_LOCK that it makes
       pub record Acquires (point : ℕ) : Type 0 where
         pub now : Acquired
         pub is : acquired_at plan c point ≡ Some now

@@ -12,11 +12,11 @@ use Rattle.c_threads.specs.Claims.{WorldStandsFor}
 use Rattle.c_threads.proofs.Shared.{Sees}
 use Rattle.c_threads.proofs.Stands.{CallStands, ThreadStands, Stands, thread_of, thread_in_c}
 
--- of a world that is reached
+-- a world that was reached
 module _ (plan : Plan) (w : World) (c : WorldInC) (beside : Stands plan w c) where
   -- ---- a call under way
 
-  -- its section
+  -- the section of the call
   pub record Section (t : ℕ) (x : ThreadInC) (call : CallInC) (p : Progress) : Type 0 where
     pub a : Activation
     pub is_open : HasOpen w t a

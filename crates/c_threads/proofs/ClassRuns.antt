@@ -74,7 +74,7 @@ module _ (program : Typed) (section : Section) (locals : List Value) where
     abbrev rest : List (Option Pointer)
     rest = past g asked
 
-    -- what is left
+    -- the variables after the run
     abbrev pub leaves : Locking
     leaves = holding (noted g kps notes) (ordered kps) rest (calls ++ called (ordered kps))
 
@@ -124,7 +124,7 @@ module _ (program : Typed) (section : Section) (locals : List Value) where
       abbrev lasts : List LockStatement
       lasts = OrderAll n ∷ TakeAll n ∷ []
 
-      -- one part after another
+      -- two lists of statements run in turn
       both : (ss ts : List LockStatement) (x y z : Locking) → go ss x ≡ Some y → go ts y ≡ Some z → go (ss ++ ts) x ≡ Some z
       both ss ts x y z ex ey = do_append program section locals ss ts x y ex ∙ ey
 
@@ -188,7 +188,7 @@ module _ (program : Typed) (section : Section) (locals : List Value) where
     abbrev tested : Option Pointer → Option Locking
     tested o = lookup o (λ noted. take_unless (address_at program section locals k) noted k alone)
 
-    -- what is left, by what is noted and what the path names
+    -- the variables after the run, by what is noted and what the path names
     abbrev Left : Option Pointer → Pointer → Type 0
     Left o p = lookup (tested o) (go []) ≡ Some (made (dropped held [] p))
 

@@ -52,13 +52,13 @@ module _ (laws : RunLaws) (plan : Plan) (ok : IsCompiled plan) (short : HasFitti
     abbrev frame_here : Frame HeldCells
     frame_here = frame call go_of.memory
 
-    -- a cell that the section holds
+    -- a cell that the section holds is covered
     is_covered : (v : Value) → value_at go_of.memory.cells cell ≡ Some v → IsCovered plan x cell
     is_covered v there =
         let mine = (k.reached.sound.well t a_of opened).only cell (v, ap (λ (b : Activation). value_at b.machine.memory.cells cell) go_of.is ∙ there) in
         (mine.0, sym (ok.laid_out.cell_locks cell) ∙ mine.1, among_contains x.locked mine.0 (ap (λ (b : Activation). among b.held mine.0) (sym go_of.is) ∙ mine.2))
 
-    -- over the cells that it holds the group does nothing undefined
+    -- over the cells that the section holds, its group does nothing undefined
     not_anything : (i : Instr) → (IsAcquire i → ⊥) → slice_get (code_at plan call.call.section) call.place ≡ Some i →
         begin_group load_held store_held plan.program (group_in plan call.call.section call.place i) frame_here ≡ Anything → ⊥
     not_anything i other is any =

@@ -28,7 +28,7 @@ times t n = replicate n t
 abbrev the_lock : Lock
 the_lock = record { class = 0; object = 0 }
 
--- what a state has, if it has any
+-- the cells of a state, if it has any
 abbrev cells_in : State → List Value
 cells_in (At w) = w.cells
 cells_in Broken = []
@@ -45,7 +45,7 @@ abbrev answers_in : State → List (List Ended)
 answers_in (At w) = map (λ (x : ThreadInC). x.answers) w.threads
 answers_in Broken = []
 
--- what a step is
+-- the kinds of steps
 data Kind : Type 0 where
   idle : Kind
   waits : Lock → Kind
@@ -147,7 +147,7 @@ module _ (alloc : Global) (name : String Global) where
   no_more_calls : kind_in lost_update 0 (after (times 0 10)) ≡ idle
   no_more_calls = refl
 
-  -- nothing is accessed before the lock is there; then the load and the store reach the cell
+  -- no cell is accessed before the lock is acquired; then the load and the store reach the cell
   before_the_lock : accesses_in lost_update (after (times 0 2)) ≡ [] ∷ [] ∷ []
   before_the_lock = refl
 
@@ -160,14 +160,15 @@ module _ (alloc : Global) (name : String Global) where
   at_the_store : accesses_in lost_update (after (times 0 6)) ≡ (0 ∷ []) ∷ [] ∷ []
   at_the_store = refl
 
-  -- while thread 0 has the lock, thread 1 comes no further than to its call of AL_LOCK
+  -- while thread 0 has the lock, thread 1 gets as far as its call of AL_LOCK
   waiting : kind_in lost_update 1 (after (times 0 3 ++ times 1 2)) ≡ waits the_lock
   waiting = refl
 
   still_waiting : kind_in lost_update 1 (after (times 0 3 ++ times 1 9 ++ times 0 5)) ≡ waits the_lock
   still_waiting = refl
 
-  -- with the entry of thread 0 the lock is given back, and thread 1 goes on, whether or not the call of thread 0 has returned
+  -- once the entry of thread 0 is made, the lock is released and thread 1 goes on, even if the call of thread 0 has not
+  -- returned
   overtaken : cells_in (after (times 0 3 ++ times 1 2 ++ times 0 6 ++ times 1 8)) ≡ Int (pos 2) ∷ []
   overtaken = refl
 
@@ -180,7 +181,7 @@ module _ (alloc : Global) (name : String Global) where
 
   -- ---- what is undefined
 
-  -- locking what the thread has locked itself, and unlocking what it hasn't locked
+  -- a thread that locks a lock that it has locked, or unlocks one that it has not
   relocked : (w : WorldInC) (c : CallInC) → locks w 0 (record { answers = []; locked = the_lock ∷ []; active = Some c }) c the_lock [] ≡ Breaks
   relocked w c = refl
 

@@ -18,7 +18,7 @@ GivesBack locked (lock ∷ rest) = (among locked lock ≡ true) × GivesBack (wi
 distinct_rest : {X : Type 0} (x : X) (xs : List X) → AllPairs ◌≢◌ (x ∷ xs) → AllPairs ◌≢◌ xs
 distinct_rest x xs pairs i j d less within = pairs (suc i) (suc j) d (omega (arith, less)) (omega (arith, within))
 
--- calls for distinct locks do so, if these are exactly the locked ones
+-- calls for distinct locks release all locked locks, if these are exactly the locked ones
 gives_back : (locks locked : List Lock) → AllPairs ◌≢◌ locks → ((l : Lock) → among locked l ≡ true → Contains locks l) →
     ((l : Lock) → Contains locks l → among locked l ≡ true) → GivesBack locked locks
 gives_back [] locked pairs all each = λ lock h. not_in_none lock (all lock h)

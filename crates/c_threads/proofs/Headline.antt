@@ -41,7 +41,7 @@ answers_are : (cs : List Commit) → map (λ (e : Entry). e.answer) (map entry_o
 answers_are [] = refl
 answers_are (c ∷ cs) = ap (λ xs. answer_of c ∷ xs) (answers_are cs)
 
--- what stands on a stack whose numbers have 64 bits
+-- an operand whose stack has only numbers of 64 bits has 64 bits
 operand_fits : (ops : List Operand) (variables : List Value) (temporaries : Temporary → Option Value) (stack : List Value) (a : Operand) (v : Value) →
     Hold ops variables temporaries stack → AreFitting stack → Contains ops a → held a variables temporaries ≡ Some v → IsFitting v
 operand_fits [] variables temporaries stack a v h f c is = absurd (not_in_none a c)
@@ -76,7 +76,7 @@ module _ (laws : ClaimLaws) (plan : Plan) (ok : IsCompiled plan) (short : HasFit
     world_size : length w.cells ≡ length plan.program.cells.items
     world_size = ap (λ (v : World). length v.cells) (sym k.reached.is) ∙ headline.all_cells
 
-    -- a cell whose lock no thread has locked is in the world
+    -- the world has a cell whose lock no thread has locked
     free_there : (cell : ℕ) (lock : Lock) → lock_of_cell plan.program cell ≡ Some lock → is_locked c.threads lock ≡ false →
         (v : Value) × (slice_get w.cells cell ≡ Some (Some v))
     free_there cell lock of free =

@@ -44,7 +44,8 @@ pub record IsEntry (plan : Plan) (threads : List ThreadInC) (p : ℕ) (e : Entry
   pub scripted : call_at plan e.thread e.step ≡ Some e.call
   pub begun : e.begun ≤ p
 
--- beside a world before it, after which a call that had not begun there notes at least its whole history
+-- the invariant of a world `w` that steps reached from `base`: a call that had not begun at `base` notes at least the
+-- whole history of `base`
 pub record InOrder (plan : Plan) (base w : WorldInC) : Type 0 where
   pub apart : (t u : ℕ) (x y : ThreadInC) (lock : Lock) → slice_get w.threads t ≡ Some x → slice_get w.threads u ≡ Some y →
       among x.locked lock ≡ true → among y.locked lock ≡ true → t ≡ u
@@ -60,7 +61,7 @@ pub record InOrder (plan : Plan) (base w : WorldInC) : Type 0 where
   pub late : (t : ℕ) (x : ThreadInC) (c : CallInC) → Runs w t x c → HasNotBegun base t (length x.answers) → length base.history ≤ c.begun
   pub noted : (p : ℕ) (e : Entry) → slice_get w.history p ≡ Some e → HasNotBegun base e.thread e.step → length base.history ≤ e.begun
 
--- ---- a thread is another, and the history has maybe one entry more
+-- ---- one thread changes, and the history gets at most one entry
 
 abbrev changed : WorldInC → ℕ → ThreadInC → List Value → List Entry → WorldInC
 changed w t x cells history = record { cells = cells; history = history; threads = set w.threads t x }
@@ -82,7 +83,7 @@ record Change (plan : Plan) (base w : WorldInC) (t : ℕ) (x y : ThreadInC) (his
   leaving : (c : CallInC) (outcome : Outcome) (locks : List Lock) → y.active ≡ Some c → c.progress ≡ Leaving outcome locks →
       HasEntry (record w { history = history }) t (length y.answers) (answer c outcome)
 
--- an entry is still there
+-- a call that had an entry still has it
 still : (w : WorldInC) (t k : ℕ) (a : Ended) (cells : List Value) (history : List Entry) (threads : List ThreadInC) →
     ((p : ℕ) (e : Entry) → slice_get w.history p ≡ Some e → slice_get history p ≡ Some e) → HasEntry w t k a →
     HasEntry (record { cells = cells; history = history; threads = threads }) t k a
@@ -170,7 +171,7 @@ module _ (plan : Plan) (base w : WorldInC) (t : ℕ) (x y : ThreadInC) (cells : 
         })
   ]
 
-  -- the new entry's call had none
+  -- the call of the new entry had no entry before
   fresh_once : (q : ℕ) (e d : Entry) → e.thread ≡ t → e.step ≡ entered x → slice_get w.history q ≡ Some d → e.thread ≡ d.thread →
       e.step ≡ d.step → ⊥
   fresh_once q e d of is h same number =
@@ -432,7 +433,7 @@ at_most_one (Some d) = by d.progress
     by (Leaving outcome left) = omega arith
 
 module _ (plan : Plan) (base w : WorldInC) (order : InOrder plan base w) where
-  -- what has not begun has no entry
+  -- a call that has not begun has no entry
   none_yet : (q : ℕ) (d : Entry) → slice_get w.history q ≡ Some d → HasNotBegun w d.thread d.step → ⊥
   none_yet q d at fresh =
       let i = order.entries q d at in
@@ -443,7 +444,7 @@ module _ (plan : Plan) (base w : WorldInC) (order : InOrder plan base w) where
         | inr next ↦ (let zero = ap leaves_with next.1 in let number = next.0 in omega (arith, before, zero, number))
       ]
 
-  -- and is not under way
+  -- a call that has not begun is not under way
   none_runs : (t : ℕ) (x : ThreadInC) (c : CallInC) → Runs w t x c → HasNotBegun w t (length x.answers) → ⊥
   none_runs t x c h fresh =
       let same : x ≡ fresh.0 = same_value (slice_get w.threads t) x fresh.0 h.at fresh.1 in
@@ -453,7 +454,7 @@ module _ (plan : Plan) (base w : WorldInC) (order : InOrder plan base w) where
         | inr next ↦ none-some c (sym next.1 ∙ (ap (λ (z : ThreadInC). z.active) (sym same) ∙ h.is))
       ]
 
-  -- from there on
+  -- a world is in order with itself as the base
   pub from_here : InOrder plan w w
   from_here = record {
     apart = order.apart;

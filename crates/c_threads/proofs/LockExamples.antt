@@ -78,13 +78,13 @@ module _ (alloc : Global) (name : String Global) where
   abbrev its_lock : ℕ → Lock
   its_lock o = record { class = 0; object = o }
 
-  -- both paths are acquired before the first point, of two of their class
+  -- the acquire before the first point asks for two paths of one class
   the_statements : statements (lock_paths accounts clear) (0 ∷ 1 ∷ [])
       ≡ Ask 0 0 ∷ Ask 1 1 ∷ Drop 1 (0 ∷ 1 ∷ []) [] ∷ Drop 0 (0 ∷ 1 ∷ []) (1 ∷ []) ∷ Note 0 0 ∷ Note 1 1 ∷ Exchange 0
       ∷ Take 0 ∷ Take 1 ∷ []
   the_statements = refl
 
-  -- on these accounts, with these notes
+  -- the acquire for these accounts, with these notes
   abbrev acquires : Option ℕ → Option ℕ → List Pointer → Option Acquired
   acquires a b notes = acquired accounts clear (Ref a ∷ Ref b ∷ []) (0 ∷ 1 ∷ []) notes
 
@@ -95,12 +95,12 @@ module _ (alloc : Global) (name : String Global) where
       ≡ leaves (Some (its_lock 0) ∷ Some (its_lock 1) ∷ []) (its_lock 0 ∷ its_lock 1 ∷ [])
   in_order = refl
 
-  -- by object, whatever the order of the paths
+  -- locks are ordered by object, whatever the order of the paths
   turned : acquires (Some 1) (Some 0) (None ∷ None ∷ [])
       ≡ leaves (Some (its_lock 1) ∷ Some (its_lock 0) ∷ []) (its_lock 0 ∷ its_lock 1 ∷ [])
   turned = refl
 
-  -- an account twice: its lock is taken once, and noted once
+  -- two roots that are one account: its lock is acquired once, and noted once
   twice : acquires (Some 1) (Some 1) (None ∷ None ∷ []) ≡ leaves (None ∷ Some (its_lock 1) ∷ []) (its_lock 1 ∷ [])
   twice = refl
 
@@ -108,7 +108,7 @@ module _ (alloc : Global) (name : String Global) where
   with_null : acquires None (Some 1) (None ∷ None ∷ []) ≡ leaves (None ∷ Some (its_lock 1) ∷ []) (its_lock 1 ∷ [])
   with_null = refl
 
-  -- one that is held isn't taken again, also where another path holds it
+  -- a held lock is not acquired again, even if another path holds it
   held_already : acquires (Some 0) (Some 1) (Some (its_lock 0) ∷ None ∷ [])
       ≡ leaves (Some (its_lock 0) ∷ Some (its_lock 1) ∷ []) (its_lock 1 ∷ [])
   held_already = refl
@@ -116,7 +116,7 @@ module _ (alloc : Global) (name : String Global) where
   held_by_another : acquires (Some 1) (Some 1) (None ∷ Some (its_lock 1) ∷ []) ≡ leaves (None ∷ Some (its_lock 1) ∷ []) []
   held_by_another = refl
 
-  -- each is given back, the last path's first
+  -- each lock is released, the last path's first
   back : given_back (Some (its_lock 1) ∷ Some (its_lock 0) ∷ []) ≡ its_lock 0 ∷ its_lock 1 ∷ []
   back = refl
 
@@ -131,7 +131,7 @@ module _ (alloc : Global) (name : String Global) where
   abbrev at : ℕ → Pointer
   at o = Some (its_lock o)
 
-  -- what is held is dropped, and of equal ones all but the last
+  -- of equal locks all but the last become NULL, and so do held ones
   drops : drop_all 4 2 (with_array (None ∷ at 5 ∷ []) (at 3 ∷ at 5 ∷ at 3 ∷ at 1 ∷ []) [])
       ≡ Some (with_array (None ∷ at 5 ∷ []) (None ∷ None ∷ at 3 ∷ at 1 ∷ []) [])
   drops = refl

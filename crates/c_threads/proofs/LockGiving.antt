@@ -11,7 +11,7 @@ use Rattle.c_threads.specs.Locking.{Pointer, unlocked, gives, unlocks}
 use Rattle.c_threads.specs.LockClaims.{EndsGiveBackWhatIsHeld}
 
 module _ (notes : List Pointer) where
-  -- for the given number of first paths
+  -- the locks that the first `n` paths give
   abbrev given : ℕ → List Lock
   given n = flat_map (gives notes) (unlocks n)
 

@@ -19,7 +19,7 @@ joined [] = []
 joined (g ∷ gs) = g ++ joined gs
 
 module _ (paths : List LockPath) where
-  -- the path of a number has the class
+  -- the path of number `k` has the class
   pub record HasClass (k class : ℕ) : Type 0 where
     pub path : LockPath
     pub here : slice_get paths k ≡ Some path
@@ -108,14 +108,14 @@ module _ (paths : List LockPath) where
     sorted_right [] ys s = s
     sorted_right (x ∷ xs) ys s = sorted_right xs ys s.1
 
-    -- each is a path of the section
+    -- each number is that of a path of the section
     abbrev pub AreKnown : List ℕ → Type 0
     AreKnown list = (k : ℕ) → Contains list k → (path : LockPath) × (slice_get paths k ≡ Some path)
 
     abbrev pub AreOfClass : ℕ → List ℕ → Type 0
     AreOfClass class list = (k : ℕ) → Contains list k → HasClass k class
 
-    -- of greater rank than a class
+    -- the path of number `k` has a greater rank than the class
     pub record IsHigher (class k : ℕ) : Type 0 where
       pub path : LockPath
       pub here : slice_get paths k ≡ Some path
@@ -141,7 +141,7 @@ module _ (paths : List LockPath) where
 
     module _ (apart : (i k : ℕ) (a b : LockPath) → slice_get paths i ≡ Some a → slice_get paths k ≡ Some b →
         rank a ≡ rank b → a.class ≡ b.class) where
-      -- within a class numbers rise
+      -- within a class, the numbers rise
       pub rises : (class i k : ℕ) → HasClass i class → HasClass k class → Goes i k → i < k
       rises class i k hi hk goes = elim (goes hi.path hk.path hi.here hk.here) [
         | inl less ↦ (let same : rank hi.path ≡ rank hk.path = ap (slice_index ranks) (hi.is ∙ sym hk.is) in
@@ -149,7 +149,7 @@ module _ (paths : List LockPath) where
         | inr q ↦ q.1
       ]
 
-      -- a path of another class, after one of a class
+      -- a path of another class that follows one of a class has a greater rank
       is_higher : (class j k : ℕ) (path : LockPath) → HasClass j class → slice_get paths k ≡ Some path →
           (path.class ≡ class → ⊥) → Goes j k → slice_index ranks class < rank path
       is_higher class j k path hj here other goes =
@@ -159,12 +159,12 @@ module _ (paths : List LockPath) where
             | inr q ↦ absurd (other (sym (apart j k hj.path path hj.here here q.0) ∙ hj.is))
           ]
 
-      -- what follows a path is of no less rank
+      -- a path that follows another has no lesser rank
       goes_up : (j k : ℕ) (a b : LockPath) → slice_get paths j ≡ Some a → slice_get paths k ≡ Some b → Goes j k →
           rank a ≤ rank b
       goes_up j k a b ha hb goes = elim (goes a b ha hb) [ inl less ↦ omega (arith, less) | inr q ↦ (let same = q.0 in omega (arith, same)) ]
 
-      -- with these after the run that is under way
+      -- the runs of `ks`, after a run that has begun
       abbrev RunOn : List ℕ → Type 0
       RunOn ks =
           (j : ℕ) (js : List ℕ) (class : ℕ) → AreOfClass class (j ∷ js) → Sorted ((j ∷ js) ++ ks) → AreKnown ks →
@@ -235,7 +235,7 @@ module _ (paths : List LockPath) where
       )
       run_on (k ∷ ks) j js class of sorted known = one_more k ks (run_on ks) j js class of sorted known
 
-      -- of a list in order
+      -- a sorted list has such runs
       pub list_runs : (list : List ℕ) → Sorted list → AreKnown list → AreRuns (runs paths list)
       list_runs [] sorted known = (
         record { class = 0; of = λ k c. absurd (not_in_none k c); sorted = tt; higher = λ k c. absurd (not_in_none k c) },

@@ -87,7 +87,7 @@ dropped_twice os rs p = by (equals_any p os) ∙ sym (ap (λ b. if b then None e
   by true = none_dropped rs
   by false = refl
 
--- from the last to the first, those that are in front the last first
+-- pointers that are dropped from the last to the first; `front` is reversed
 abbrev pub kept : List Pointer → List Pointer → List Pointer → List Pointer
 kept os [] back = back
 kept os (p ∷ front) back = kept os front (dropped_by (os ++ back) p ∷ back)
@@ -104,7 +104,7 @@ pub turned_twice : {A : Type 0} (xs front back : List A) → turned (turned xs f
 turned_twice [] front back = refl
 turned_twice (x ∷ xs) front back = turned_twice xs (x ∷ front) back
 
--- where these hold the locks of a class that are held
+-- the pointers `os` stand for the held locks of a class
 module _ (class : ℕ) (held : List Lock) (os : List Pointer)
     (same : (lock : Lock) → lock.class ≡ class → equals_any (Some lock) os ≡ among held lock) where
   dropped_is : (later : List Pointer) (p : Pointer) → IsOf class p → dropped_by (os ++ later) p ≡ dropped held later p
@@ -126,7 +126,7 @@ module _ (class : ℕ) (held : List Lock) (os : List Pointer)
       ap (λ t. dropped_by (os ++ t) p ∷ t) (aims_are ps are.1)
       ∙ ap (λ q. q ∷ aimed held ps) (dropped_is (aimed held ps) p are.0)
 
--- ---- which are dropped
+-- ---- the pointers that are dropped
 
 module _ (notes : List Pointer) (rest : List (Option Pointer)) (calls : List Lock) where
   abbrev st : List Pointer → Locking
@@ -162,7 +162,7 @@ module _ (notes : List Pointer) (rest : List (Option Pointer)) (calls : List Loc
           ∙ ap (λ ps. Some (st ps)) (set_first front p None back)
       by false = refl
 
-  -- the places after one
+  -- the places after a given one
   later_are : (front back : List Pointer) (p q : Pointer) (n : ℕ) → n ≡ length (p ∷ front) + length back →
       map (m_at (st (turned front (q ∷ back)))) (up (length front + 1) n) ≡ map some back
   later_are front back p q n e =
@@ -219,7 +219,7 @@ module _ (notes : List Pointer) (rest : List (Option Pointer)) (calls : List Loc
       (λ q. tail_is (m_at (at q) i) (Some o) (map (m_at (at q)) is) (map some os) (e q))
       ∙ ap (λ q. Some (st (turned front (q ∷ back)))) (dropped_twice (o ∷ []) os p)
 
-  -- all of h
+  -- all places of h
   all_notes : (front back : List Pointer) → notes ≡ turned front back →
       map (slice_get notes) (range_with_len (length front) (length back)) ≡ map some back
   all_notes front [] e = refl
@@ -253,7 +253,7 @@ module _ (notes : List Pointer) (rest : List (Option Pointer)) (calls : List Loc
       each_one go j (down j) (st (turned front (p ∷ back))) (st (turned front (two ∷ back))) step
       ∙ many_drops count c n front (two ∷ back) (omega (arith, e))
 
--- ---- in which order
+-- ---- the order of the pointers
 
 less_is : (class : ℕ) (a b : Pointer) → IsOf class a → IsOf class b → is_less a b ≡ Some (is_below a b)
 less_is class a None ha hb = refl
@@ -358,7 +358,7 @@ module _ (notes : List Pointer) (rest : List (Option Pointer)) (calls : List Loc
       ∙ passes front back p hf.0 hb)
       ∙ orders n front (passed_up p back) (omega (arith, e, many)) hf.1 (of_passed class p back hf.0 hb)
 
--- ---- which are taken, and noted
+-- ---- the pointers that are taken and noted
 
 abbrev pub put : List Pointer → ℕ → Pointer → List Pointer
 put notes k None = notes
@@ -409,7 +409,7 @@ length_past [] os fits = omega arith
 length_past (k ∷ ks) [] fits = absurd (omega (arith, fits))
 length_past (k ∷ ks) (o ∷ os) fits = let e = length_past ks os (omega (arith, fits)) in omega (arith, e)
 
--- ---- what is noted for a path
+-- ---- the note of a path
 
 length_set : (notes : List Pointer) (k : ℕ) (p : Pointer) → length (set notes k p) ≡ length notes
 length_set [] k p = refl
@@ -425,7 +425,7 @@ there [] k lt = absurd (omega (arith, lt))
 there (x ∷ notes) zero lt = (x, refl)
 there (x ∷ notes) (suc k) lt = there notes k (omega (arith, lt))
 
--- h[k] with what a path has
+-- h[k] after the lock of its path is noted
 pub note_is : (notes : List Pointer) (asked : List (Option Pointer)) (calls : List Lock) (k : ℕ) (p : Pointer) →
     k < length notes →
     note_if p k (record { notes = notes; asked = asked; calls = calls })
@@ -473,7 +473,7 @@ module _ (program : Typed) (section : Section) (locals : List Value) where
     on (Some z) more = more z
     on None more = refl
 
-  -- a loop in a loop
+  -- a loop within a loop
   do_nested : (statements : ℕ → List LockStatement) (is : List ℕ) (x : Locking) →
       do_these (flat_map statements is) x ≡ for_each (λ i. do_these (statements i)) is x
   do_nested statements [] x = refl
@@ -493,7 +493,7 @@ module _ (program : Typed) (section : Section) (locals : List Value) where
       ∙ each_same (λ j. do_these (map Exchange (up j (n - 1)))) (λ j. for_each exchange (up j (n - 1)))
       (λ j y. do_mapped Exchange (up j (n - 1)) y) js x
 
-  -- ---- what is asked for
+  -- ---- the requested locks
 
   next_at : (ps : List Pointer) (o : Option Pointer) (os : List (Option Pointer)) →
       slice_get (filled ps (o ∷ os)) (length ps) ≡ Some o
@@ -530,7 +530,7 @@ module _ (program : Typed) (section : Section) (locals : List Value) where
       ∙ asks name notes (ps ++ q ∷ []) ks os calls (omega (arith, fits)) (λ i c. addresses i (in_rest k i ks c))
       ∙ ap (λ qs. Some (holding notes qs (past ks os) calls)) (append_assoc ps (q ∷ []) (map name ks))
 
-  -- ---- what is noted
+  -- ---- the notes
 
   pub notings : (front ps notes : List Pointer) (ks : List ℕ) (rest : List (Option Pointer)) (calls : List Lock) →
       length ks ≡ length ps → ((k : ℕ) → Contains ks k → k < length notes) →

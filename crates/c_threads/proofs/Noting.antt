@@ -58,7 +58,7 @@ not_among held lock not = elim (cases_Bool (among held lock)) [
   | inr e ↦ e
 ]
 
--- the same locks in another order
+-- the notes of some locks are the notes of the same locks in another order
 pub notes_same : (notes : List Pointer) (xs ys : List Lock) → ((l : Lock) → Contains xs l → Contains ys l) →
     ((l : Lock) → Contains ys l → Contains xs l) → NotesAre notes xs → NotesAre notes ys
 notes_same notes xs ys there back are = record {
@@ -88,7 +88,7 @@ pub notes_ordered : (notes : List Pointer) (held : List Lock) (ps : List Pointer
 notes_ordered notes held ps are =
     notes_same notes (held ++ called ps) (held ++ called (ordered ps)) (in_order held ps) (out_of_order held ps) are
 
--- one more
+-- one more lock is noted
 note_one : (notes : List Pointer) (held : List Lock) (k : ℕ) (lock : Lock) → NotesAre notes held →
     slice_get notes k ≡ Some None → (Contains held lock → ⊥) →
     NotesAre (set notes k (Some lock)) (held ++ lock ∷ [])
@@ -138,7 +138,7 @@ module _ (name : ℕ → Pointer) (first : List Lock) where
   abbrev pub kept_of : List ℕ → List Pointer
   kept_of ks = aimed first (map name ks)
 
-  -- the notes at these numbers name what the paths name
+  -- the notes of these paths are the locks that the paths name
   abbrev pub Fit : List ℕ → List Pointer → Type 0
   Fit ks notes = (k : ℕ) (l : Lock) → Contains ks k → slice_get notes k ≡ Some (Some l) → name k ≡ Some l
 
@@ -161,7 +161,7 @@ module _ (name : ℕ → Pointer) (first : List Lock) where
   abbrev Goal : List ℕ → List Pointer → List Pointer → List Lock → Type 0
   Goal ks ps notes held = NotesAre (noted ks ps notes) (held ++ called ps)
 
-  -- after a run the notes are of what was held and of what is kept
+  -- after a run, the notes are those of the locks that were held, and of those that are kept
   abbrev NoteRun : List ℕ → Type 0
   NoteRun ks =
       (notes : List Pointer) (held : List Lock) → NotesAre notes held → Rising ks →
@@ -220,7 +220,7 @@ module _ (name : ℕ → Pointer) (first : List Lock) where
   note_run (k ∷ ks) notes held are rising within fit apart =
       one_more k ks (note_run ks) notes held are rising within fit apart
 
-  -- none of those that are kept was held
+  -- none of the kept locks was held before
   pub kept_apart : (ks : List ℕ) (l : Lock) → among first l ≡ true → any_same l (kept_of ks) ≡ false
   kept_apart [] l h = refl
   kept_apart (k ∷ ks) l h = by (name k) (kept_apart ks l h) where
@@ -239,7 +239,7 @@ module _ (name : ℕ → Pointer) (first : List Lock) where
       | inr s ↦ ap (λ p. is_same l p || any_same l (kept_of ks)) s.0 ∙ other x s.1 rest
     ]
 
-  -- a note after the run was there, or is one of the run's
+  -- a note after the run was there before, or is one of the run
   abbrev Found : List ℕ → List Pointer → ℕ → Lock → Type 0
   Found ks notes i l = (slice_get notes i ≡ Some (Some l)) ⊎ (Contains ks i × (name i ≡ Some l))
 

@@ -69,12 +69,12 @@ module _ (plan : Plan) (ok : IsCompiled plan) (short : HasFittingNumbers plan) w
       subst StandsFitting (ap (λ (xs : List Value). alone plan.program.shape (code_at plan a.call.section) well.count xs heap) (sym locals)
       ∙ well.truth heap (size plan.layout.opening w.history) (sound.fit t a o).part.reads) stands
 
-  -- the machine of one that has no outcome
+  -- the machine of a section without an outcome fits
   pub machine_fits : (a : Activation) (heap : List Value) → a.outcome ≡ None → StandsFitting (standing a.outcome (on_heap heap a.machine)) →
       Fitting (on_heap heap a.machine)
   machine_fits a heap none s = subst (λ o. StandsFitting (standing o (on_heap heap a.machine))) none s
 
-  -- a cell that it holds
+  -- the value of a cell that the section holds fits
   pub held_fits : (a : Activation) (heap : List Value) → StandsFitting (standing a.outcome (on_heap heap a.machine)) → AreFitting (overwritten heap a.machine.memory.writes)
   held_fits a heap s = by a.outcome s
     where

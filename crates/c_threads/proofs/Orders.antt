@@ -1,4 +1,4 @@
--- The locks that are taken of a class are those to ask for, in their order, class after class.
+-- The locks that are taken of a class are those that are asked for, in their order, class after class.
 use Rattle.std.proofs.Common.{◌≡◌, ℕ, ◌<◌, List, [], ◌∷◌, ◌++◌, Option, Some, None, Bool, true, false}
 use Rattle.std.proofs.Common.{refl, sym, ap, ◌∙◌, subst, arith}
 use Rattle.std.specs.Prelude.{nat_lt, ◌||◌, ◌&&◌, ◌==◌, if◌then◌else◌, slice_index, ⊤}
@@ -8,7 +8,7 @@ use Rattle.locks.specs.Locks.{same_lock, among}
 use Rattle.locks.specs.Order.{precedes}
 use Rattle.worlds.specs.Asking.{insert, insert_new}
 
--- ---- what is taken of the locks that paths of one class ask for
+-- ---- the locks that are taken, of those that the paths of one class name
 
 abbrev pub is_same : Lock → Option Lock → Bool
 is_same lock None = false
@@ -18,23 +18,23 @@ abbrev pub any_same : Lock → List (Option Lock) → Bool
 any_same lock [] = false
 any_same lock (m ∷ ms) = is_same lock m || any_same lock ms
 
--- one that is held, or asked for later, becomes NULL
+-- a lock that is held, or asked for later, becomes NULL
 abbrev pub dropped : List Lock → List (Option Lock) → Option Lock → Option Lock
 dropped held later None = None
 dropped held later (Some lock) = if among held lock then None else if any_same lock later then None else Some lock
 
--- from the last to the first
+-- locks that are dropped from the last to the first
 abbrev pub aimed : List Lock → List (Option Lock) → List (Option Lock)
 aimed held [] = []
 aimed held (m ∷ ms) = dropped held (aimed held ms) m ∷ aimed held ms
 
--- within a class
+-- the order within a class
 abbrev pub is_below : Option Lock → Option Lock → Bool
 is_below a None = false
 is_below None (Some b) = true
 is_below (Some a) (Some b) = nat_lt a.object b.object
 
--- exchanged with the next one, then that with the one after it, and so on
+-- a lock that is exchanged with the next one, which then is exchanged with the one after, and so on
 abbrev pub passed_up : Option Lock → List (Option Lock) → List (Option Lock)
 passed_up m [] = m ∷ []
 passed_up m (n ∷ ns) = if is_below n m then n ∷ passed_up m ns else m ∷ passed_up n ns
@@ -43,7 +43,7 @@ abbrev pub ordered : List (Option Lock) → List (Option Lock)
 ordered [] = []
 ordered (m ∷ ms) = passed_up m (ordered ms)
 
--- the calls that are made
+-- the calls of AL_LOCK that are made
 abbrev pub called : List (Option Lock) → List Lock
 called [] = []
 called (None ∷ ms) = called ms
@@ -81,7 +81,7 @@ Rise ranks (g ∷ gs) = ((class : ℕ) × AreOf class g × AreAbove ranks class 
 
 -- ---- order within a class
 
--- nothing of these is below a first one
+-- no lock of the list is below `m`
 abbrev NoneBelow : Option Lock → List (Option Lock) → Type 0
 NoneBelow m [] = ⊤
 NoneBelow m (n ∷ ns) = (is_below n m ≡ false) × NoneBelow m ns
@@ -110,12 +110,12 @@ none_below : (a b : Option Lock) (ms : List (Option Lock)) → is_below b a ≡ 
 none_below a b [] h k = tt
 none_below a b (m ∷ ms) h k = (not_below a b m h k.0, none_below a b ms h k.1)
 
--- both ways of a choice
+-- a property of both branches holds of a choice
 either_by : (b : Bool) (P : List (Option Lock) → Type 0) (x y : List (Option Lock)) → P x → P y → P (if b then x else y)
 either_by true P x y h k = h
 either_by false P x y h k = k
 
--- a list through which a lock was passed up: a lock that none was below has none below it still
+-- passing a lock up through a list keeps that no lock of the list is below `a`
 none_below_passed : (a m : Option Lock) (ns : List (Option Lock)) → is_below m a ≡ false → NoneBelow a ns → NoneBelow a (passed_up m ns)
 none_below_passed a m [] h k = (h, tt)
 none_below_passed a m (n ∷ ns) h k =
@@ -158,7 +158,7 @@ lt_self k = grind (arith, nat_tests)
 eq_self : (k : ℕ) → (k == k) ≡ true
 eq_self k = grind (arith, nat_tests)
 
--- what is known of two locks of one class, one of which is another
+-- two locks of one class precede each other by their objects
 same_class : (ranks : List ℕ) (a b : Lock) → a.class ≡ b.class → precedes ranks a b ≡ nat_lt a.object b.object
 same_class ranks a b e =
     ap (λ c. nat_lt (slice_index ranks c) (slice_index ranks b.class) || ((c == b.class) && nat_lt a.object b.object)) e
@@ -210,7 +210,7 @@ module _ (ranks : List ℕ) (class : ℕ) (lock : Lock) (of_class : lock.class �
       lock_passes_by (nat_lt n.object lock.object) n ns refl s (of_class ∙ sym are.0) (or_left (same_lock lock n) (any_same lock ns) e)
       (lock_passes ns s.1 are.1 (or_right (same_lock lock n) (any_same lock ns) e))
 
-  -- one that is there isn't put in again
+  -- a lock that is in the list is not inserted again
   object_is : (n : Lock) → n.class ≡ class → same_lock lock n ≡ true → lock.object ≡ n.object
   object_is n c e =
       let q : (lock.object == n.object) ≡ true = sym (same_object lock n (of_class ∙ sym c)) ∙ e in

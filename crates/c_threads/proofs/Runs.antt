@@ -32,13 +32,13 @@ pub record RunLaws : Type 0 where
   pub numbers : NumbersStayFitting
   pub size : CommittedKeepsSize
 
--- a world, one in C that it stands for, and what holds of that by itself
+-- a world, and a world in C that stands for it, both with their invariants
 pub record Kept (plan : Plan) (base : WorldInC) (w : World) (c : WorldInC) : Type 0 where
   pub reached : Reached plan w
   pub stands : Stands plan w c
   pub order : InOrder plan base c
 
--- the same from there on
+-- the same, with the world itself as the base
 pub again : (plan : Plan) (base : WorldInC) (w : World) (c : WorldInC) → Kept plan base w c → Kept plan c w c
 again plan base w c k = record { reached = k.reached; stands = k.stands; order = from_here plan base c k.order }
 
@@ -98,7 +98,7 @@ module _ (laws : RunLaws) (plan : Plan) (ok : IsCompiled plan) (short : HasFitti
 
   -- ---- steps
 
-  -- a state is a world, which has the entries of one before it
+  -- a state is a world, whose history begins with that of an earlier one
   pub record Comes (c : WorldInC) (s : State) : Type 0 where
     pub w : World
     pub now : WorldInC

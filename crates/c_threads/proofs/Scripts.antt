@@ -22,7 +22,7 @@ use Rattle.c_threads.specs.Outside.{count_of, AreCallsOf, with_threads, with_scr
 use Rattle.c_threads.specs.Outside.{CallsMayComeFromOutside}
 use Rattle.c_threads.proofs.Same.{checked, no_fault, laid, ranked, rise, placed, expanded}
 
--- ---- lists that lie in memory
+-- ---- lists in memory
 
 abbrev vec : {X : Type 0} (alloc : Global) (xs : List X) → length xs < 2 ^ 63 → Vec X Global
 vec alloc xs small =

@@ -41,7 +41,7 @@ some_or_none (Some v) = inl (v, refl)
 abbrev pub Sees : List Value → HeldCells → Type 0
 Sees cells held = (c : ℕ) (v : Value) → value_at held.cells c ≡ Some v → slice_get cells c ≡ Some v
 
--- both go on to others: the same cells are held, the memory has what they hold, and elsewhere what it had
+-- the memory and the held cells after a step: the same cells are held, and elsewhere the memory stays as it was
 pub record Kept (cells : List Value) (held : HeldCells) (after : List Value) (now : HeldCells) : Type 0 where
   pub sees : Sees after now
   pub size : length after ≡ length cells
@@ -61,7 +61,7 @@ kept_on a b c x y z k l = record {
   others = λ n none. (let one = k.others n none in let two = l.others n one.0 in (two.0, two.1 ∙ one.1));
 }
 
--- a cell that is held after was held before
+-- a cell that is held after the step was held before it
 pub held_before : (a b : List Value) (x y : HeldCells) (c : ℕ) (v : Value) → Kept a x b y → value_at y.cells c ≡ Some v →
     (w : Value) × (value_at x.cells c ≡ Some w)
 held_before a b x y c v k is = elim (some_or_none (value_at x.cells c)) [
@@ -117,12 +117,12 @@ lookup_alike cells held (Some c) sees = load_alike cells held c sees
 abbrev pub over : Frame HeldCells → List Value → Frame (List Value)
 over f cells = record { variables = f.variables; temporaries = f.temporaries; memory = cells; prints = f.prints }
 
--- a frame over the memory is in the state of one over held cells, each after others
+-- a frame over the memory is in the state of a frame over held cells; both follow others
 pub record Together (cells : List Value) (held : HeldCells) (f : Frame HeldCells) (g : Frame (List Value)) : Type 0 where
   pub is : g ≡ over f g.memory
   pub kept : Kept cells held g.memory f.memory
 
--- so do both lead to the same, unless C leaves it undefined over the held cells
+-- both effects lead to the same state, unless C leaves it undefined over the held cells
 abbrev pub Alike : List Value → HeldCells → After HeldCells → After (List Value) → Type 0
 Alike cells held (Next f) (Next g) = Together cells held f g
 Alike cells held (Next f) (At_label label g) = ⊥
@@ -253,7 +253,7 @@ module _ (shape : Shape) (f : Frame HeldCells) (cells : List Value) (sees : Sees
 
 -- ---- one after another
 
--- statements after others
+-- effects that are alike stay alike after other statements
 alike_on : (a b : List Value) (x y : HeldCells) (u : After HeldCells) (v : After (List Value)) → Kept a x b y → Alike b y u v → Alike a x u v
 alike_on a b x y (Next f) (Next g) k h = record { is = h.is; kept = kept_on a b g.memory x y f.memory k h.kept }
 alike_on a b x y (Next f) (At_label label g) k h = absurd h
@@ -354,7 +354,7 @@ module _ (shape : Shape) where
   first_or_rest None rest c h = inr h
   first_or_rest (Some d) rest c h = elim (in_cases d c rest h) [ inl e ↦ inl (ap Some e) | inr r ↦ inr r ]
 
-  -- each cell that statements reach is held, where they do nothing undefined over the held cells
+  -- each cell that statements reach is held, if they do nothing undefined over the held cells
   pub reached_held : (ss : List Statement) (f : Frame HeldCells) (cells : List Value) (c : ℕ) → Sees cells f.memory →
       (run load_held store_held shape ss f ≡ Anything → ⊥) → Contains (all_accesses load_from store_to shape ss (over f cells)) c → HasCell f.memory c
   reached_held [] f cells c sees some h = absurd (not_in_none c h)

@@ -99,7 +99,7 @@ module _ (laws : StandingLaws) (plan : Plan) (ok : IsCompiled plan) (k : ℕ) (s
 
   -- ---- from point to point
 
-  -- after a point that follows
+  -- a path that was listed before a point was listed before the point that follows
   listed_on : (p q i : ℕ) → Follows (skeleton section) p q → WasListed plan k section p i → WasListed plan k section q i
   listed_on p q i follows was = record { at = was.at; listed = was.listed; order = inr (by was.order) } where
     by : (was.at ≡ p) ⊎ Before (skeleton section) was.at p → Before (skeleton section) was.at q
@@ -335,7 +335,7 @@ module _ (laws : StandingLaws) (plan : Plan) (ok : IsCompiled plan) (a : Activat
     abbrev asked_for : List Lock
     asked_for = locks_before plan k number a.held a.machine.locals
 
-    -- the notes after the acquire, at this point
+    -- the notes after the acquire are right for this point
     stands_now : NotesStand plan k section number a.machine.locals takes.after.notes
     stands_now = record {
       fit = takes.fit;

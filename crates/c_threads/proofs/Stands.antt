@@ -1,15 +1,16 @@
 -- A world of threads in C and the world of sections that it stands for: the relation between both, and how it is kept
 -- if a thread changes.
 --
--- How the laws of threads are proved: two things are kept of each world. By itself (`proofs/InOrder`): no lock is
--- locked by two threads; each entry is of a call past its end, and no call has two. What a call returned is in its
--- entry, and a call that had not begun in an earlier world notes that world's whole history. A thread's change is one
--- lemma. Beside a world of sections (here): the history is the same, a call is its thread's open section until its
--- entry is made, and the memory has in each cell what the world has or its section holds. A call is tied to its section
--- by the plan of the operand stack (`proofs/Beside`). A group over the memory does what it does over the cells that the
--- section holds, and reaches no other cell (`proofs/Shared`). A step is one of the world's or none (`proofs/Steps`): a
--- wait, an unlock after the first and the return are none. Someone goes on: a thread that releases locks can. Where
--- none does, the locked locks are those that sections hold, and the section that goes on in the world does so in C
+-- How the laws of threads are proved: each world keeps two invariants. The first is about the world in C alone
+-- (`proofs/InOrder`): no lock is locked by two threads, each entry is of a call past its end, and no call has two
+-- entries. The entry of a call has what the call returned, and a call that had not begun in an earlier world notes that
+-- world's whole history. One lemma covers the change of a thread. The second relates the world in C to a world of
+-- sections (here): the history is the same, a call is its thread's open section until its entry is made, and the memory
+-- has in each cell what the world has or its section holds. The plan of the operand stack ties a call to its section
+-- (`proofs/Beside`). A group over the memory does what it does over the cells that the section holds, and reaches no
+-- other cell (`proofs/Shared`). A step is one step of the world or none (`proofs/Steps`): a wait, an unlock after the
+-- first and the return are none. Some thread goes on: a thread that releases locks can. If no thread releases locks,
+-- the locked locks are those that sections hold, and the section that goes on in the world does so in C
 -- (`proofs/Waiting`).
 use Rattle.std.proofs.Common.{◌≡◌, ◌≢◌, ◌<◌, ℕ, ◌+◌, true, false, List, [], length, map, Option, Some, None}
 use Rattle.std.proofs.Common.{slice_get, set, refl, sym, ap, ◌∙◌, subst, arith, inl, inr, true≢false}
@@ -61,7 +62,7 @@ module _ (plan : Plan) where
     pub threads : (t : ℕ) (thread : ThreadState) (x : ThreadInC) → slice_get w.threads t ≡ Some thread → slice_get c.threads t ≡ Some x →
         ThreadStands c.cells thread x x.active
 
-  -- the thread of the world
+  -- the thread of the world that a thread in C stands for
   pub thread_of : (w : World) (c : WorldInC) → Stands w c → (t : ℕ) (x : ThreadInC) → slice_get c.threads t ≡ Some x →
       (thread : ThreadState) × (slice_get w.threads t ≡ Some thread)
   thread_of w c s t x at =
@@ -69,7 +70,7 @@ module _ (plan : Plan) where
       let same = s.count in
       get_some w.threads t (omega (arith, less, same))
 
-  -- the thread in C
+  -- the thread in C that stands for a thread of the world
   pub thread_in_c : (w : World) (c : WorldInC) → Stands w c → (t : ℕ) (thread : ThreadState) → slice_get w.threads t ≡ Some thread →
       (x : ThreadInC) × (slice_get c.threads t ≡ Some x)
   thread_in_c w c s t thread at =
@@ -77,7 +78,7 @@ module _ (plan : Plan) where
       let same = s.count in
       get_some c.threads t (omega (arith, less, same))
 
-  -- a thread stands over another memory, which has the same in the cells that its section holds
+  -- a thread stands over another memory that agrees with the first in the cells that its section holds
   pub seen_on : (cells now : List Value) (thread : ThreadState) (x : ThreadInC) (o : Option CallInC) →
       ((a : Activation) (cell : ℕ) (v : Value) → thread.active ≡ Some a → value_at a.machine.memory.cells cell ≡ Some v → slice_get now cell ≡ slice_get cells cell) →
       ThreadStands cells thread x o → ThreadStands now thread x o
@@ -116,7 +117,7 @@ module _ (plan : Plan) where
       )
       by (Leaving outcome locks) h = h
 
-  -- the section that a thread has open holds what the thread in C has locked
+  -- the open section of a thread holds the locks that the thread in C has locked
   pub held_is_locked : (cells : List Value) (thread : ThreadState) (x : ThreadInC) (o : Option CallInC) (a : Activation) →
       ThreadStands cells thread x o → thread.active ≡ Some a → a.held ≡ x.locked
   held_is_locked cells thread x None a h is = absurd (none-some a (sym h.1 ∙ is))
@@ -130,7 +131,7 @@ module _ (plan : Plan) where
       by (Over outcome) h = same h.1 h.2 h.3.held
       by (Leaving outcome locks) h = absurd (none-some a (sym h.1 ∙ is))
 
-  -- a lock that no thread in C has locked, no section holds
+  -- no section holds a lock that no thread in C has locked
   pub none_holds : (w : World) (c : WorldInC) → Stands w c → (lock : Lock) → is_locked c.threads lock ≡ false → holder w lock ≡ None
   none_holds w c s lock free = no_holder 0 w.threads lock (λ t thread at h. by t thread at thread.active refl h)
     where
@@ -175,7 +176,7 @@ module _ (plan : Plan) where
     ];
   }
 
-  -- the world stays, and a thread in C changes what it is in C alone
+  -- the world stays, and a thread in C changes in a way that the world does not see
   pub same_world : (w : World) (c : WorldInC) (t : ℕ) (thread : ThreadState) (x : ThreadInC) → Stands w c → slice_get w.threads t ≡ Some thread →
       ThreadStands c.cells thread x x.active → Stands w (record c { threads = set c.threads t x })
   same_world w c t thread x s at mine =

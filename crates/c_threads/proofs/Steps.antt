@@ -1,4 +1,4 @@
--- Each step of a thread in C is one step of the world that stands for it, or none, and never undefined.
+-- Each step of a thread in C is defined, and is one step or no step of the world that stands for it.
 use Rattle.std.proofs.Common.{◌≡◌, ◌≢◌, ℕ, ◌+◌, true, false, if◌then◌else◌, List, [], ◌∷◌, ◌++◌, length, map, Option, Some, None}
 use Rattle.std.proofs.Common.{slice_get, set, refl, sym, ap, ◌∙◌, subst, inl, inr}
 use Rattle.std.specs.Prelude.{⊤}
@@ -60,7 +60,7 @@ module _ (laws : StepLaws) (plan : Plan) (ok : IsCompiled plan) where
     ready = laws.ready.step plan w t ok r.sound r.ready;
   }
 
-  -- what a step in C comes to: where it leads on, a world is reached that stands for what it leads to
+  -- what a step in C needs: it leads to a world in C that stands for a reached world
   abbrev pub Follows : Step → Type 0
   Follows Idle = ⊤
   Follows (Waits lock) = ⊤
@@ -68,11 +68,11 @@ module _ (laws : StepLaws) (plan : Plan) (ok : IsCompiled plan) where
   Follows Breaks = ⊥
 
   module _ (w : World) (c : WorldInC) (r : Reached plan w) (s : Stands plan w c) (t : ℕ) where
-    -- by a step of the world's thread, which leaves this world
+    -- a step of the world's thread, which leads to this world
     by_step : (now : World) (next : WorldInC) → (happens plan w t).1 ≡ now → Stands plan now next → Follows (Goes next)
     by_step now next e st = (now, subst (Reached plan) e (reached_on w t r), st)
 
-    -- by none
+    -- no step of the world
     by_none : (next : WorldInC) → Stands plan w next → Follows (Goes next)
     by_none next st = (w, r, st)
 
@@ -80,7 +80,7 @@ module _ (laws : StepLaws) (plan : Plan) (ok : IsCompiled plan) where
         ThreadStands plan c.cells other y y.active → ThreadStands plan c.cells other y y.active
     others_stay u other y ne a b h = h
 
-    -- how the thread stands, by what it is in C
+    -- the relation of a thread to its thread in C, by the active call of the latter
     stands_at : (x : ThreadInC) (thread : ThreadState) (o : Option CallInC) → slice_get c.threads t ≡ Some x → slice_get w.threads t ≡ Some thread →
         x.active ≡ o → ThreadStands plan c.cells thread x o
     stands_at x thread o at at' is = subst (ThreadStands plan c.cells thread x) is (s.threads t thread x at' at)
@@ -122,7 +122,7 @@ module _ (laws : StepLaws) (plan : Plan) (ok : IsCompiled plan) where
 
     -- ---- locks
 
-    -- a lock that a thread has locked it doesn't ask for
+    -- a thread does not ask for a lock that it has locked
     no_relock : (x : ThreadInC) (call : CallInC) (lock : Lock) (rest : List Lock) → Runs c t x call → call.progress ≡ Taking (lock ∷ rest) →
         among x.locked lock ≡ true → ⊥
     no_relock x call lock rest h e m =
@@ -158,7 +158,7 @@ module _ (laws : StepLaws) (plan : Plan) (ok : IsCompiled plan) where
           others = others_stay;
         }))
 
-    -- the calls of AL_UNLOCK are of locks that are locked
+    -- the calls of AL_UNLOCK are for locks that are locked
     record Unlocks (from : WorldInC) (x : ThreadInC) (call : CallInC) (outcome : Outcome) (locks : List Lock) : Type 0 where
       locked : List Lock
       left : List Lock
@@ -240,7 +240,7 @@ module _ (laws : StepLaws) (plan : Plan) (ok : IsCompiled plan) where
       well : IsWell plan here
       well = r.sound.well t here opened
 
-      -- a cell that another section holds, this one doesn't
+      -- this section does not hold a cell that another one holds
       not_mine : (u : ℕ) (other : ThreadState) (b : Activation) (cell : ℕ) (v : Value) → t ≢ u → slice_get w.threads u ≡ Some other →
           other.active ≡ Some b → value_at b.machine.memory.cells cell ≡ Some v → value_at memory.cells cell ≡ None
       not_mine u other b cell v ne at' is there = elim (some_or_none (value_at memory.cells cell)) [
@@ -252,7 +252,7 @@ module _ (laws : StepLaws) (plan : Plan) (ok : IsCompiled plan) where
         | inr none ↦ none
       ]
 
-      -- nor one that is there
+      -- this section does not hold a cell that the world has
       not_free : (cell : ℕ) (v : Value) → slice_get w.cells cell ≡ Some (Some v) → value_at memory.cells cell ≡ None
       not_free cell v there = elim (some_or_none (value_at memory.cells cell)) [
         | inl mine ↦ absurd (let away = (r.sound.fit t here opened).moved cell mine in
@@ -262,7 +262,7 @@ module _ (laws : StepLaws) (plan : Plan) (ok : IsCompiled plan) where
         | inr none ↦ none
       ]
 
-      -- the section after an instruction, and the call after a group that wrote to this memory
+      -- the section after an instruction, and the call after its group, which wrote to this memory
       arrives : (now : Activation) (next : CallInC) (mem : List Value) (held : HeldCells) → instructed plan here (next_effect plan here) ≡ now →
           Kept c.cells memory mem held →
           CallStands plan mem (record { step = thread.step; active = Some now }) (record x { active = Some next }) next next.progress →

@@ -1,4 +1,4 @@
--- An acquire of a compiled plan takes the locks that are asked for.
+-- An acquire of a compiled plan takes the requested locks.
 use Rattle.std.proofs.Common.{◌≡◌, ◌<◌, ℕ, suc, List, [], ◌∷◌, map, length, Option, Some, None}
 use Rattle.std.proofs.Common.{slice_get, refl, sym, ap, ◌∙◌, subst, inl, inr}
 use Rattle.std.specs.Prelude.{slice_index, unwrap_or}
@@ -38,7 +38,7 @@ pub record TakingLaws : Type 0 where
 
 -- ---- ranks tell classes apart
 
--- a class of the program, by its place in the rank list
+-- a class of the program has a place in the list of ranks
 rank_place : (program : Typed) (ranks : List ℕ) (ok : AreRanksOf program ranks) (class : ℕ) →
     class < length program.classes.items →
     (k : ℕ) × (slice_get ok.list k ≡ Some class) × (slice_index ranks class ≡ k)
@@ -96,7 +96,7 @@ module _ (plan : Plan) (ok : IsCompiled plan) (k point : ℕ) (section : Section
   abbrev paths : List LockPath
   paths = lock_paths plan.program section
 
-  -- a placement's list, or none
+  -- the list of a placement, or an empty one
   list_at : (list : List ℕ) → slice_get (lists_at plan.lists k) point ≡ Some list →
       IsListBefore plan.program section plan.ranks point list
   list_at list e = by (slice_get plan.lists k) refl where
@@ -116,7 +116,7 @@ module _ (plan : Plan) (ok : IsCompiled plan) (k point : ℕ) (section : Section
   pub list_sorted : Sorted paths plan.ranks (listed_before plan k point)
   list_sorted = list_by (Sorted paths plan.ranks) tt (λ list before. sorted_from paths plan.ranks list before.order)
 
-  -- each is due there
+  -- each path of the list is due at the point
   pub list_due : (i : ℕ) → Contains (listed_before plan k point) i →
       (path : LockPath) × (slice_get paths i ≡ Some path) × IsDue plan.program section plan.ranks point path
   list_due =

@@ -20,7 +20,7 @@ use Rattle.c_threads.proofs.Lists.{without_cases}
 use Rattle.c_threads.specs.Threads.{frame, begun_call, begins, answer, ends, goes_on, steps_with, thread_steps, step}
 use Rattle.c_threads.specs.Claims.{Runs, IsOpen}
 
--- the thread once its call has returned
+-- the thread after its call has returned
 abbrev pub answered : ThreadInC → CallInC → Outcome → ThreadInC
 answered x c outcome = record x { answers = x.answers ++ answer c outcome ∷ []; active = None }
 
@@ -76,7 +76,7 @@ module _ (plan : Plan) (w : WorldInC) (t : ℕ) where
   pub turn : Turn plan w t (step plan w t)
   turn = any_turn (slice_get w.threads t) refl
 
--- ---- what a group, and what an unlock, comes to
+-- ---- the result of a group, and of an unlock
 
 pub data Moved (w : WorldInC) (t : ℕ) (x : ThreadInC) (c : CallInC) : Step → Type 0 where
   breaks : Moved w t x c Breaks

@@ -36,7 +36,7 @@ step_is : (plan : Plan) (c : WorldInC) (t : ℕ) (x : ThreadInC) (call : CallInC
 step_is plan c t x call p h e =
     ap (thread_steps plan c t) h.at ∙ (ap (steps_with plan c t x) h.is ∙ ap (goes_on plan c t x call) e)
 
--- a thread whose entry is made is there, or there is none
+-- a thread that is releasing its locks
 record Leaver (threads : List ThreadInC) : Type 0 where
   t : ℕ
   x : ThreadInC
@@ -97,7 +97,7 @@ nobody_holds n (x ∷ xs) lock free (suc t) thread at h = by (holds lock x) free
     by true f rest = none-some n (sym f)
     by false f rest = rest f
 
--- ---- of a world that is reached
+-- ---- in a world that was reached
 
 pub record WaitLaws : Type 0 where
   pub runs : RunLaws
@@ -134,7 +134,7 @@ module _ (laws : WaitLaws) (plan : Plan) (ok : IsCompiled plan) (short : HasFitt
   abbrev Leads : ℕ → Type 0
   Leads u = (next : WorldInC) × (step plan c u ≡ Goes next)
 
-  -- a step other than a wait, which C defines
+  -- a step that C defines and that is not a wait
   unlocked_leads : (u : ℕ) (from : WorldInC) (y : ThreadInC) (d : CallInC) (outcome : Outcome) (s : Step) → step plan c u ≡ s →
       Unlocked from u y d outcome s → KeptOn laws.runs plan ok short base c s → Leads u
   unlocked_leads u from y d outcome s is breaks_too kept = absurd kept

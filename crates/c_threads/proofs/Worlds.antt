@@ -50,7 +50,7 @@ module _ (plan : Plan) (w : World) (t : ℕ) (thread : ThreadState) (at : slice_
 
 -- ---- who holds a lock
 
--- if no thread holds it, it has no holder
+-- a lock that no thread holds has no holder
 pub no_holder : (n : ℕ) (threads : List ThreadState) (lock : Lock) →
     ((t : ℕ) (thread : ThreadState) → slice_get threads t ≡ Some thread → holds lock thread ≡ true → ⊥) → holder_from n threads lock ≡ None
 no_holder n [] lock none = refl
@@ -77,7 +77,7 @@ taken_one d c (Some (Some w)) rest v h = elim (cases_Bool (nat_eq d c)) [
   | inr e ↦ inr (sym (cond-false (nat_eq d c) (Some w) (value_at rest c) e) ∙ h)
 ]
 
--- a value that is taken was there
+-- a cell that is taken had its value before
 pub taken_only : (cells : List (Option Value)) (cs : List ℕ) (c : ℕ) (v : Value) → value_at (taken cells cs) c ≡ Some v →
     slice_get cells c ≡ Some (Some v)
 taken_only cells [] c v h = absurd (none-some v h)
@@ -90,7 +90,7 @@ pub length-without : (cells : List (Option Value)) (cs : List ℕ) → length (w
 length-without cells [] = refl
 length-without cells (c ∷ cs) = length-set (without cells cs) c None ∙ length-without cells cs
 
--- a value that is still there was there
+-- a cell that is left had its value before
 pub without_some : (cells : List (Option Value)) (cs : List ℕ) (c : ℕ) (v : Value) → slice_get (without cells cs) c ≡ Some (Some v) →
     slice_get cells c ≡ Some (Some v)
 without_some cells [] c v h = h
@@ -103,7 +103,7 @@ pub length-with_back : (cells : List (Option Value)) (xs : List (ℕ × Value)) 
 length-with_back cells [] = refl
 length-with_back cells (x ∷ xs) = length-set (with_back cells xs) x.0 (Some x.1) ∙ length-with_back cells xs
 
--- a value that is there came back, or was there
+-- a cell of the world was given back, or was there before
 pub back_some : (cells : List (Option Value)) (xs : List (ℕ × Value)) (c : ℕ) (v : Value) → slice_get (with_back cells xs) c ≡ Some (Some v) →
     (value_at xs c ≡ Some v) ⊎ (slice_get cells c ≡ Some (Some v))
 back_some cells [] c v h = inr h

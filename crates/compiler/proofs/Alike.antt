@@ -1,5 +1,5 @@
--- Programs that stand for one resolved program have the same accesses, lock paths and faults of these, wherever they
--- are in memory.
+-- Programs that stand for one resolved program have the same accesses, lock paths and faults of lock paths, wherever
+-- they are in memory.
 use Rattle.std.proofs.Common.{◌≡◌, ℕ, List, [], ◌∷◌, ◌++◌, length, Option, Some, None, if◌then◌else◌, refl, sym, ap}
 use Rattle.std.proofs.Common.{subst, ◌∙◌}
 use Rattle.std.specs.Prelude.{map, option_map, slice_get, ◌==◌}

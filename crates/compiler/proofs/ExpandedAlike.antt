@@ -22,7 +22,7 @@ use Rattle.resolution.specs.CoreViews.{core_global, core_array, core_pool, core_
 use Rattle.compiler.proofs.WrittenAlike.{body_alike}
 use Rattle.compiler.proofs.LocalsAlike.{mapped_twice, locals_alike}
 
--- what is seen by one view is seen by another that goes on from it
+-- lists that a view `f` makes equal are made equal by each view that factors through `f`
 seen_so : {A B C : Type 0} (f : A → B) (g : B → C) (h : A → C) (xs ys : List A) → ((x : A) → g (f x) ≡ h x) →
     map f ys ≡ map f xs → map h ys ≡ map h xs
 seen_so f g h xs ys same e = sym (mapped_twice f g h ys same) ∙ ap (map g) e ∙ mapped_twice f g h xs same
@@ -110,7 +110,7 @@ sections_alike shape shape' [] [] [] (y' ∷ ys') helpers same out locals heads 
 sections_alike shape shape' (x ∷ xs) (y ∷ ys) [] ys' helpers same out locals heads out' locals' heads' = absurd out
 sections_alike shape shape' (x ∷ xs) (y ∷ ys) (x' ∷ xs') [] helpers same out locals heads out' locals' heads' = absurd out'
 
--- what holds at each place, of lists of one length
+-- a relation that holds at each index of two lists of one length
 zipped : {X : Type 0} (R S : X → X → Type 0) (xs ys : List X) →
     ((k : ℕ) (x : X) → slice_get xs k ≡ Some x → (y : X) × (slice_get ys k ≡ Some y) × R x y) → AllZip S xs ys →
     AllZip R xs ys

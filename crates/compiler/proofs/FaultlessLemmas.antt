@@ -41,7 +41,7 @@ tokens_faultless source ts tree _ _ has right placed (too_deep d) =
     let deep = d.deep in absurd (omega arith)
 tokens_faultless source ts tree _ start has right placed (misplaced m) = placed start m
 
--- the text has no fault where neither it, nor its tokens, nor their tree, nor a program that this means has one
+-- a text has no fault if neither its bytes, nor its tokens, nor its tree, nor the resolved program has one
 module _ (source : List ℕ) (ts : List Tok) (tree : List Decl) (program written : Typed)
     (no_text : (code : Code) (start : ℕ) → text.IsFault source code start → ⊥)
     (one_program : StandsForOne)
@@ -49,20 +49,20 @@ module _ (source : List ℕ) (ts : List Tok) (tree : List Decl) (program written
     (has : text.HasTokens source ts) (right : grammar.HasRightTree ts tree) (placed : (s : ℕ) → IsMisplaced ts s → ⊥)
     (only : (other : List Decl) → grammar.HasRightTree ts other → tree ≡ other) (no_tree : names.HasNoFault tree)
     (means : Resolves tree program) (expanded : IsExpanded program written) (no_path : paths.HasNoFault written) (no_cycle : order.HasNoFault written) where
-  -- there is one tree
+  -- a text has at most one tree
   tree_same : (tokens : List Tok) (decls : List Decl) → length source ≤ SOURCE_LIMIT → text.HasTokens source tokens
       → grammar.HasRightTree tokens decls → tree ≡ decls
   tree_same tokens decls within others rights =
       only decls (subst (λ (o : List Tok). grammar.HasRightTree o decls) (sym (one tokens within others)) rights)
 
-  -- and what it means is one program but for where that lies
+  -- all programs that the tree means are equal as data
   program_same : (other : Typed) (decls : List Decl) → tree ≡ decls → Resolves decls other →
       core_of other ≡ core_of program
   program_same other decls same resolves =
       one_program tree (core_of other) (core_of program)
       (subst (λ (d : List Decl). AreTables d (core_of other)) (sym same) resolves) means
 
-  -- and with its helpers written out it is one, too
+  -- all expansions of these programs are equal as data
   written_same : (other out : Typed) (decls : List Decl) → tree ≡ decls → Resolves decls other →
       IsExpanded other out → core_of out ≡ core_of written
   written_same other out decls same resolves is = expanded_alike other program out written (program_same other decls same resolves) is expanded

@@ -69,7 +69,7 @@ brings_out helpers (suc depth) k =
 abbrev section_locals : List Section → Section → List Local
 section_locals helpers x = take x.parameters x.locals ++ all_locals_out (brings_out helpers deepest) x.locals x.body
 
--- ---- they are those
+-- ---- the locals of the relation are these
 
 mapped_both : {A B : Type 0} (f : A → B) (xs ys : List A) → map f (xs ++ ys) ≡ map f xs ++ map f ys
 mapped_both f [] ys = refl

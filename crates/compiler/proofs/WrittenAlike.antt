@@ -43,7 +43,7 @@ is_number zero (suc k) = false
 is_number (suc n) zero = false
 is_number (suc n) (suc k) = is_number n k
 
--- the last pair of this local
+-- the new number of the local `k`, by the last pair for it
 abbrev written_for : List Pair → ℕ → ℕ
 written_for [] k = 0
 written_for (p ∷ ps) k = if is_number p.own k then p.written else written_for ps k
@@ -198,7 +198,7 @@ if_else_is t block otherwise =
     let second = row_is row'.0 row'.1 ∙ ap core_stmts (items_hidden-the_row-Stmt-0 otherwise) in
     λ i. if_else (core_condition t) (first i) (second i)
 
--- what is written, and how far
+-- the expanded statements, and the numbers after them
 record Out : Type 0 where
   stmts : Stmts
   at : At
@@ -272,7 +272,7 @@ helpers_written helpers (suc depth) k first = body_if (slice_get helpers k) (λ 
 
 -- ---- the relation is this function
 
--- what stands for a local stands for it alone
+-- the statements `ys`, and the numbers from `a` to `b`, are those of the function
 record Follows (ys : List the_stmt.Stmt) (a b : At) (out : Out) : Type 0 where
   stmts : core_stmts ys ≡ out.stmts
   at : b ≡ out.at

@@ -1,4 +1,5 @@
--- An engine that reads a program's file alone, and gave what it answers to the beginning of its text, has served its request.
+-- An engine that reads a program's file alone, and gave what it answers to the beginning of its text, has served its
+-- request.
 use Rattle.std.proofs.Common.{◌≡◌, ◌<◌, ◌+◌, ◌⊎◌, true, false, ℕ, List, [], length, take, Option, Result, IfOk, arith, refl}
 use Rattle.std.proofs.lemmas.Result.{IfOk-weaker}
 use Rattle.std.specs.Prelude.{IfSome}
@@ -19,7 +20,7 @@ use Rattle.driver.proofs.AnswerLemmas.{alone_is_answered}
 use Rattle.driver.proofs.LongTexts.{read_or_long}
 use Rattle.driver.proofs.ServingLemmas.{given_served, IsRight}
 
--- what is answered for the beginning of a text is answered for the text
+-- an answer for the beginning of a text is an answer for the text
 abbrev pub IsAnswerOfWhole : Alone → Reading → List ℕ → Type 0
 IsAnswerOfWhole request program t =
     (status : Status) (out err : List ℕ) → AloneAnswers request program.name t status out err →

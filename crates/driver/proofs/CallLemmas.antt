@@ -9,13 +9,13 @@ use Rattle.core_lang.specs.Serial.{Scheduled, script_from, scripts_from, all_cal
 use Rattle.core_lang.specs.WellFormed.{IsChecked, CanCall}
 use Rattle.driver.specs.Working.Running.{CanMake}
 
--- calls that can be made, one list behind the other
+-- the calls of two lists of calls that can be made can be made, one list after the other
 pub can_make_both : (program : Typed) (ss more : List Scheduled) → CanMake program ss → CanMake program more →
     CanMake program (ss ++ more)
 can_make_both program [] more all rest = rest
 can_make_both program (s ∷ ss) more all rest = (all.0, can_make_both program ss more all.1 rest)
 
--- each of such calls
+-- each call of such a list can be made
 pub can_make_at : {A : Type 0} (f : A → Scheduled) (program : Typed) (xs : List A) (i : ℕ) (x : A) →
     CanMake program (map f xs) → i < length xs
     → x ≡ get_or xs i x → CanCall program (f x).call.section (f x).call.arguments
@@ -23,12 +23,12 @@ can_make_at f program [] i x all within is = absurd (omega arith)
 can_make_at f program (y ∷ ys) zero x all within is = rw is all.0
 can_make_at f program (y ∷ ys) (suc i) x all within is = can_make_at f program ys i x all.1 (omega arith) is
 
--- what is left from one item on
+-- the items from one on are that item and those after it
 pub drop_next : {A B : Type 0} (f : A → B) (xs : List A) (i : ℕ) (x : A) → i < length xs → x ≡ get_or xs i x
     → map f (drop i xs) ≡ f x ∷ map f (drop (i + 1) xs)
 drop_next f xs i x within is = rw (add-one, drop-cons xs i x within, ← is) refl
 
--- a list parts at each of its items
+-- a list is cut at each of its items
 pub map_parts : {A B : Type 0} (f : A → B) (xs : List A) (i : ℕ) (x : A) → i < length xs → x ≡ get_or xs i x
     → map f xs ≡ map f (take i xs) ++ f x ∷ map f (drop (i + 1) xs)
 map_parts f xs i x within is =

@@ -66,7 +66,7 @@ explained_alike file t u fault notes first whole same =
     joined fault.code (fault_text file t fault) (fault_text file u fault) (shown_place t fault.start) (shown_place u fault.start) _ _
     (told_alike file t u fault first) (place_alike t u fault.start first same) (notes_alike file t u notes whole)
 
--- the texts tell faults at their beginning alike, as JSON too
+-- faults at the beginning of the two texts are written alike, in JSON too
 abbrev AreAlike : List ℕ → List ℕ → List ℕ → Type 0
 AreAlike file t u =
     (shown_place t 0 ≡ shown_place u 0)
@@ -90,7 +90,7 @@ of_whole long (of_advice few has is) = absurd (omega arith)
 of_whole long (of_mark mark said) = absurd (omega (arith, mark.few))
 of_whole long (of_text_limit is limit said) = ap (λ (note : Note). note.start) said
 
--- they pass the same limit
+-- both texts pass the same limit
 limit_alike : {t u words : List ℕ} {at : ℕ} → IsLong t → IsLong u → IsTextLimit t at words → IsTextLimit u at words
 limit_alike long longer (source l) = source longer
 limit_alike long longer (a_name x few over) = absurd (omega arith)
@@ -114,7 +114,7 @@ tell_alike t u code at notes long longer are = record {
   limited = λ words is limit. are.limited words is (limit_alike longer long limit);
 }
 
--- none is told with a fault of theirs
+-- a fault of a text that is too long is reported alone
 alone_of_long : {text : List ℕ} {code : Code} {at : ℕ} {further : Further} → IsLong text → AreFurther text code at further →
     further ≡ nothing_further
 alone_of_long long (others few has are behind) = absurd (omega arith)
@@ -154,7 +154,7 @@ module _ (json : Bool) (color : Color) (file t u : List ℕ) (status : Status) (
   explained_of_long (faultless is) = absurd (not_accepted is.notes is.warnings is.tell)
   explained_of_long (explained is) = fault_of_long is.fault is.notes is.further is.tell is.ended is.written is.told
 
--- what is answered for the beginning of a text is answered for the text
+-- an answer for the beginning of a text is an answer for the text
 pub explained_of_whole : ShownByFirstBytes → FaultByFirstBytes →
     (json : Bool) (color : Color) (file t : List ℕ) (had : Option (List ℕ)) (status : Status) (out err : List ℕ) →
     IfSome had (λ bytes. t ≡ take (SOURCE_LIMIT + 1) bytes) → ExplainAnswers json color file t status out err →

@@ -33,7 +33,7 @@ formats_of_long file t u status out err long longer (unformatted is) =
       told = rw (told_alike file u t is.fault (long_start is.given long)) is.told;
     })
 
--- what is answered for the beginning of a text is answered for the text
+-- an answer for the beginning of a text is an answer for the text
 pub formats_of_whole : (file t : List ℕ) (had : Option (List ℕ)) (status : Status) (out err : List ℕ) →
     IfSome had (λ bytes. t ≡ take (SOURCE_LIMIT + 1) bytes) → FormatAnswers file t status out err →
     (text : List ℕ) × IfSome had (λ bytes. text ≡ bytes) × FormatAnswers file text status out err

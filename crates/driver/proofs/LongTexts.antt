@@ -1,4 +1,4 @@
--- A text that is longer than a program may be is answered as its beginning is.
+-- A text that is longer than a program may be has the answer of its beginning.
 use Rattle.std.proofs.Common.{◌≡◌, ◌∙◌, ◌<◌, ◌≤◌, ◌+◌, ◌^◌, ℕ, List, [], take, length, Option, Some, None, min, refl}
 use Rattle.std.proofs.Common.{ap, inl, inr, ◌⊎◌, arith, ⊎_elim, lit<, lit≤, Vec, Global}
 use Rattle.std.proofs.lemmas.List.{take_all, length-take}
@@ -20,7 +20,7 @@ use Rattle.driver.specs.Answers.{TextAnswers, accepted, refused}
 abbrev pub IsLong : List ℕ → Type 0
 IsLong text = SOURCE_LIMIT < length text
 
--- it has one fault alone
+-- the fault of a text that is too long is `LimitExceeded`
 pub code_of_long : {text : List ℕ} {code : Code} {start : ℕ} → IsFault text code start → IsLong text → code ≡ LimitExceeded
 code_of_long (too_big over) long = refl
 code_of_long (within few fault) long = absurd (omega arith)
@@ -29,7 +29,7 @@ pub start_of_long : {text : List ℕ} {code : Code} {start : ℕ} → IsFault te
 start_of_long (too_big over) long = refl
 start_of_long (within few fault) long = absurd (omega arith)
 
--- so no program is accepted
+-- such a text has no accepted program
 abbrev no_memory : Global
 no_memory = record { memory = record { seal = tt } }
 
@@ -78,7 +78,7 @@ starts_at_0 t fault long (in_paths tokens tree program written none has no_fault
 starts_at_0 t fault long (in_order tokens tree program written none has no_fault has_tree no_names resolves expanded no_paths is) =
     absurd (none _ _ (too_big long))
 
--- and of two such texts it is told alike
+-- two such texts have the same text of their fault
 zero_first : (n : ℕ) → min 0 n ≡ 0
 zero_first n = grind arith
 
@@ -99,7 +99,7 @@ answers_of_long file t u status out err long longer (refused is) =
       told = rw (told_alike file u t is.fault (starts_at_0 t is.fault long is.given)) is.told;
     })
 
--- what is answered for the beginning of a text is answered for the text
+-- an answer for the beginning of a text is an answer for the text
 pub answers_of_whole : (Wanted : List ℕ → Plan → Status → List ℕ → List ℕ →
     Type 0) (file t : List ℕ) (had : Option (List ℕ))
     (status : Status) (out err : List ℕ) → IfSome had (λ bytes. t ≡ take (SOURCE_LIMIT + 1) bytes) →
@@ -115,7 +115,7 @@ answers_of_whole Wanted file t (Some bytes) status out err read answers =
     let same : t ≡ bytes = read ∙ take_all (SOURCE_LIMIT + 1) bytes (omega arith) in (t, same, answers))
     (cases_lt SOURCE_LIMIT (length bytes))
 
--- a text that was cut is long
+-- a text that was cut is too long
 pub cut_is_long : (t : List ℕ) (had : Option (List ℕ)) → IfSome had (λ bytes. t ≡ take (SOURCE_LIMIT + 1) bytes) →
     SOURCE_LIMIT < length t → IfSome had (λ bytes. SOURCE_LIMIT < length bytes)
 cut_is_long t None read long = tt
@@ -123,13 +123,13 @@ cut_is_long t (Some bytes) read long =
     let e : t ≡ take (SOURCE_LIMIT + 1) bytes = read in
     omega (arith, ap length e, length-take (SOURCE_LIMIT + 1) bytes)
 
--- a program's file was read to its end, or is long
+-- a program's file was read to its end, or is too long
 pub read_or_long : (t : List ℕ) (had left : Option (List ℕ)) → IfSome had (λ bytes. t ≡ take (SOURCE_LIMIT + 1) bytes) →
     IsAtEnd left ⊎ (SOURCE_LIMIT < length t) → IsAtEnd left ⊎ IfSome had (λ bytes. SOURCE_LIMIT < length bytes)
 read_or_long t had left read (inl ended) = inl ended
 read_or_long t had left read (inr long) = inr (cut_is_long t had read long)
 
--- a text that is shorter than what may be read is whole
+-- a text that is shorter than what may be read was read whole
 pub whole_text : (t : List ℕ) (most : ℕ) (had : Option (List ℕ)) → length t < most →
     IfSome had (λ bytes. t ≡ take most bytes) →
     IfSome had (λ bytes. t ≡ bytes)

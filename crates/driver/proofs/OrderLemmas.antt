@@ -23,9 +23,9 @@ use Rattle.driver.specs.Working.Running.{CanMake, StopsAt, progress_of}
 use Rattle.driver.specs.Serial.{calls_of, entries}
 use Rattle.driver.proofs.SerialLemmas.{settled_ahead, entries_ahead}
 
--- ---- whose calls they are
+-- ---- the threads of the calls
 
--- a thread's next call is one of its script
+-- the next call of a thread is a call of its script
 pub record IsOfScript (program : Typed) (done : List ℕ) (t : ℕ) (call : Invocation) : Type 0 where
   pub thread : Thread
   pub of : Call
@@ -52,7 +52,7 @@ pub next_of_script : (program : Typed) (done : List ℕ) (t : ℕ) (call : Invoc
     next_call program done t ≡ Some call → IsOfScript program done t call
 next_of_script program done t call is = in_thread program done t call (slice_get program.threads.items t) refl is
 
--- so the calls of an order can be made
+-- the calls of an order can be made
 can_make_next : (program : Typed) → IsChecked program → (done order : List ℕ) (t : ℕ) (o : Option Invocation) →
     next_call program done t ≡ o →
     CanMake program (scheduled_from program (one_more done t) order) →
@@ -73,7 +73,7 @@ can_make_order program checked done (t ∷ order) =
 
 -- ---- the same calls
 
--- what is called
+-- a next call, without its thread
 called_next : (program : Typed) (done : List ℕ) (t : ℕ) (o : Option Invocation) →
     calls_of (option_to_list (option_map (λ (call : Invocation). record { thread = t; step = get_or done t 0; call = call }) o)) ≡ option_to_list o
 called_next program done t None = refl
@@ -129,7 +129,7 @@ begins_with program done t order call next =
 
 -- ---- along an order
 
--- these calls, and those of the rest of the order, are the order's
+-- the calls so far and those of the rest of the order are the calls of the order
 pub record IsAlong (program : Typed) (order : List ℕ) (ss : List Scheduled) (done rest : List ℕ) : Type 0 where
   pub calls : ss ++ scheduled_from program done rest ≡ scheduled_in program order
   pub after : done_after done rest ≡ done_after (none_done program) order
@@ -157,7 +157,7 @@ step_of : (done : List ℕ) (t : ℕ) (o : Option Invocation) (s : Scheduled) �
 step_of done t None s is = cc
 step_of done t (Some call) s is = let same : s ≡ with_place done t call = cc in ap (λ (x : Scheduled). x.step) same
 
--- a thread's next call has how many are done as its number
+-- the number of a thread's next call is the number of its calls that are done
 pub step_is : (program : Typed) (done : List ℕ) (t : ℕ) (s : Scheduled) → Some s ≡ scheduled_next program done t →
     s.step ≡ get_or done t 0
 step_is program done t s is = step_of done t (next_call program done t) s is
@@ -174,9 +174,9 @@ pub along_end : (program : Typed) (order : List ℕ) (ss : List Scheduled) (done
     (ss ≡ scheduled_in program order) × (done ≡ done_after (none_done program) order)
 along_end program order ss done along = (sym (append-nil ss) ∙ along.calls, along.after)
 
--- ---- where the turns stop them
+-- ---- the call at which the turns run out
 
--- the calls of an order up to one of them are those of its beginning, and that one is a next call there
+-- the calls of an order before one of them are those of the order's beginning, after which that one comes next
 pub record IsBeginning (program : Typed) (done : List ℕ) (before : List Scheduled) (this : Scheduled) : Type 0 where
   pub order : List ℕ
   pub calls : before ≡ scheduled_from program done order
@@ -222,7 +222,7 @@ beginning program done (t ∷ order) (b ∷ before) this after made parts =
       step = more.step;
     }
 
--- the turns stop at one of the order's calls
+-- the turns run out within one of the order's calls
 pub stops_inside : SettledAreSerial →
     (turns : ℕ) (program : Typed) (order : List ℕ) (thread step : ℕ) (es : List Entry) (status : Status) (out err : List ℕ) →
     length (calls_in program order) ≡ length order → StopsAt turns program (scheduled_in program order) (thread, step) →
@@ -258,7 +258,7 @@ stops_inside law turns program order thread step es status out err made stops re
       told = none;
     }
 
--- or they settle them all
+-- the turns settle all calls of the order
 pub stops_behind : SettledAreSerial → HaveAtMostOneSerial →
     (turns : ℕ) (program : Typed) (order : List ℕ) (thread : ℕ) (es : List Entry) (status : Status) (out err : List ℕ) →
     (stops : StopsAfter program turns order thread) → (progress_of turns program (scheduled_in program order)).unsettled ≡ [] →

@@ -1,4 +1,4 @@
--- How far calls of a program come, one call further.
+-- How far the calls of a program get, one call at a time.
 use Rattle.std.proofs.Common.{◌≡◌, ◌∙◌, ℕ, List, [], ◌∷◌, ◌++◌, ap, sym, refl, append_assoc, append-nil}
 use Rattle.core_lang.specs.declared.value.Value.{Value}
 use Rattle.core_lang.specs.declared.typed.Typed.{Typed}
@@ -8,18 +8,18 @@ use Rattle.report.specs.Entry.{Entry}
 use Rattle.driver.specs.Working.Running.{StopsAt, progress_of}
 use Rattle.driver.specs.Serial.{calls_of, entry, entries}
 
--- these entries, and then these calls from this heap, come as far as all of the calls
+-- the entries so far, and those of the remaining calls run from this heap, are those of all calls
 pub record GoesOn (turns : ℕ) (program : Typed) (all : List Scheduled) (es : List Entry) (heap : List Value) (ss : List Scheduled) : Type 0 where
   pub records : es ++ entries ss (serial_with program turns heap (calls_of ss)).ends ≡ entries all (progress_of turns program all).ends
   pub heap_is : (serial_with program turns heap (calls_of ss)).heap ≡ (progress_of turns program all).heap
   pub left : (serial_with program turns heap (calls_of ss)).unsettled ≡ (progress_of turns program all).unsettled
 
--- before the first call
+-- the claim before the first call
 pub goes_start : (turns : ℕ) (program : Typed) (all : List Scheduled) (es : List Entry) (heap : List Value) (ss : List Scheduled) →
     es ≡ [] → heap ≡ opening_heap program → ss ≡ all → GoesOn turns program all es heap ss
 goes_start turns program all es heap ss none opens whole = rw (none, opens, whole) (record { records = refl; heap_is = refl; left = refl })
 
--- a call that is over is one entry more
+-- a call that ends adds one entry
 pub goes_further : (turns : ℕ) (program : Typed) (all : List Scheduled) (es : List Entry) (heap : List Value) (s : Scheduled) (ss : List Scheduled) (finished : Finished) →
     GoesOn turns program all es heap (s ∷ ss) → run_call program turns s.call heap ≡ Over finished →
     GoesOn turns program all (es ++ entry s (end_of finished) ∷ []) finished.heap ss
@@ -32,7 +32,7 @@ goes_further turns program all es heap s ss finished goes over =
       left = rw over at goes.left;
     }
 
--- one that goes beyond the turns ends the run
+-- a call that exceeds the turns ends the run
 pub goes_beyond : (turns : ℕ) (program : Typed) (all : List Scheduled) (es : List Entry) (heap : List Value) (before : List Scheduled) (s : Scheduled) (ss : List Scheduled) →
     GoesOn turns program all es heap (s ∷ ss) → all ≡ before ++ s ∷ ss → run_call program turns s.call heap ≡ Beyond_turns →
     (es ≡ entries all (progress_of turns program all).ends) × (heap ≡ (progress_of turns program all).heap) × StopsAt turns program all (s.thread, s.step)
@@ -53,7 +53,7 @@ goes_beyond turns program all es heap before s ss goes parts beyond =
       },
     )
 
--- and where no call is left, it is at its end
+-- without a remaining call, the run is at its end
 pub goes_to_end : (turns : ℕ) (program : Typed) (all : List Scheduled) (es : List Entry) (heap : List Value) (ss : List Scheduled) →
     GoesOn turns program all es heap ss → ss ≡ [] →
     (es ≡ entries all (progress_of turns program all).ends) × (heap ≡ (progress_of turns program all).heap) × ((progress_of turns program all).unsettled ≡ [])

@@ -1,4 +1,4 @@
--- The text of a run is the one of its serial meaning.
+-- The text of a run is the text of its serial meaning.
 use Rattle.std.proofs.Common.{◌≡◌, ◌∙◌, ℕ, Bool, List, [], ◌∷◌, ◌++◌, ap, sym, subst, refl, append-nil}
 use Rattle.std.proofs.lemmas.List.{map-append, append_cancel_right}
 use Rattle.core_lang.specs.declared.value.Value.{Value}
@@ -11,7 +11,7 @@ use Rattle.driver.specs.declared.status.Status.TheVariants.{Done, Unsettled}
 use Rattle.driver.specs.Working.Running.{StopsAt, progress_of}
 use Rattle.driver.specs.Serial.{calls_of, entry, entries, serial_text, IsHistory, StopsAtCall}
 
--- the calls ahead of those that the turns don't settle are run serially
+-- the calls before those that the turns don't settle are run serially
 pub settled_ahead : SettledAreSerial → (turns : ℕ) (program : Typed) (ss before after : List Scheduled) →
     ss ≡ before ++ after → (progress_of turns program ss).unsettled ≡ calls_of after →
     SerialFromOpening program (calls_of before) (progress_of turns program ss).ends (progress_of turns program ss).heap
@@ -23,7 +23,7 @@ settled_ahead law turns program ss before after parts left =
     append_cancel_right settled.0 (calls_of before) (calls_of after) (ap (λ xs. settled.0 ++ xs) (sym left) ∙ sym settled.1 ∙ split) in
     subst (λ xs. Serial program (opening_heap program) xs (progress_of turns program ss).ends (progress_of turns program ss).heap) same settled.2
 
--- as many calls end as are run
+-- the number of ends is the number of calls that are run
 pub entries_ahead : (program : Typed) (heap last : List Value) (before after : List Scheduled) (ends : List Ended) →
     Serial program heap (calls_of before) ends last → entries (before ++ after) ends ≡ entries before ends
 entries_ahead program heap last [] [] [] ran = refl

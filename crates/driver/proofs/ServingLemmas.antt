@@ -32,12 +32,12 @@ bad_input is = rw is (record { words = λ e. cc; failed = λ e. cc; memory = λ 
 pub unsettled : {status : Status} → status ≡ Unsettled → IsAnswered status
 unsettled is = rw is (record { words = λ e. cc; failed = λ e. cc; memory = λ e. cc })
 
--- all of one
+-- a property of one element holds of the list of it
 pub All_one : {A : Type 0} (P : A → Type 0) {x : A} → P x → All P (x ∷ [])
 All_one P {x = x} is zero d within = is
 All_one P {x = x} is (suc k) d within = absurd (omega arith)
 
--- what is wanted of an answer: it answers texts that the files had to give
+-- what an answer must be: an answer for the texts that the files had
 pub record IsRight (Answers : List ℕ → List (List ℕ) → Status → List ℕ → List ℕ → Type 0) (program : Reading) (others : List Reading)
     (answer : Answer) : Type 0 where
   pub text : List ℕ
@@ -128,7 +128,7 @@ module _ {O E : Type 0} (Answers : List ℕ → List (List ℕ) → Status → L
         Serves Answers program others contents told old new status
     answer_served = gone (writing_failed new.out) refl
 
-  -- an answer was given, or memory ran out before there was one
+  -- an answer was given, or memory ran out before
   pub given_served : (result : Result Answer NoMemory) → first_unread (program ∷ others) ≡ None →
       writing_failed old.out ≡ false →
       IsReadOrLong program × All IsReadOut others → IfOk result (IsRight Answers program others) → IsGiven contents told result old new status →

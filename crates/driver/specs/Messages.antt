@@ -1,4 +1,4 @@
--- The messages where there is no answer.
+-- The messages of a command that has no answer.
 use Rattle.std.specs.Prelude.{ℕ, List, [], ◌∷◌, ◌++◌, codes}
 
 -- the message where a file was not read

@@ -17,8 +17,8 @@ use Rattle.driver.specs.declared.status.Status.{Status}
 use Rattle.driver.specs.declared.status.Status.TheVariants.{Done, Refused}
 use Rattle.driver.specs.Answers.{IsRefused}
 
--- the text is accepted: out has the ranks of the lock classes of its expanded program, and the pairs of classes of which the
--- first has to come before the second, each with its reason; err is empty
+-- the text is accepted: out has the ranks of the lock classes of its expanded program, and the pairs of classes of
+-- which the first has to come before the second, each with its reason; err is empty
 pub record IsOrderGraph (text : List ℕ) (status : Status) (out err : List ℕ) : Type 0 where
   pub program : Typed
   pub accepts : Accepts text program

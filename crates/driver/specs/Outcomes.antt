@@ -23,8 +23,8 @@ use Rattle.driver.specs.declared.status.Status.{Status}
 use Rattle.driver.specs.declared.status.Status.TheVariants.{Done, BadInput, Unsettled, Unexpected}
 use Rattle.driver.specs.Serial.{entries}
 
--- the next call of a thread where the list has the number of finished calls of each thread, with the thread and the call's
--- step
+-- the next call of a thread where the list has the number of finished calls of each thread, with the thread and the
+-- call's step
 abbrev pub scheduled_next : Typed → List ℕ → ℕ → Option Scheduled
 scheduled_next program done t =
     option_map (λ (call : Invocation). record { thread = t; step = slice_index done t; call = call }) (next_call program done t)
@@ -109,8 +109,8 @@ pub record TellsReduced (looking : OutcomesOptions) (program : Typed) (status : 
   pub written : out ≡ outcomes_text program asked looking.full (Reduced states) ends ++ judged program expected asked (Reduced states) ends
   pub told : err ≡ []
 
--- there are more orders than are explored: out reports the ends of the given number of drawn orders, and whether they are as
--- expected; err is empty
+-- there are more orders than are explored: out reports the ends of the given number of drawn orders, and whether they
+-- are as expected; err is empty
 pub record TellsDrawn (looking : OutcomesOptions) (program : Typed) (status : Status) (out err : List ℕ) : Type 0 where
   pub expected : Option Expected
   pub is_expected : IsExpected program (text_given looking) expected
@@ -130,7 +130,7 @@ unknown_cell name = codes "autolock: no cell is named " ++ name
 abbrev pub no_number : List ℕ → List ℕ
 no_number name = codes "autolock: " ++ name ++ codes " holds no number"
 
--- autolock: --expect: TEXT is no comparison, at byte N
+-- the message `autolock: --expect: TEXT is no comparison, at byte N`
 abbrev pub no_comparison : List ℕ → ℕ → List ℕ
 no_comparison text byte = codes "autolock: --expect: " ++ text ++ codes " is no comparison, at byte " ++ decimal byte
 
@@ -171,8 +171,8 @@ pub record ExpectsNothing (looking : OutcomesOptions) (status : Status) (out err
   pub written : out ≡ []
   pub told : err ≡ line (no_comparison text byte)
 
--- after the calls of an order the next call of a thread meets a loop that goes on after the turns: out is the text of the
--- serial meaning of the calls before it, and names this call; err is empty
+-- after the calls of an order the next call of a thread meets a loop that goes on after the turns: out is the text of
+-- the serial meaning of the calls before it, and names this call; err is empty
 pub record StopsInOrder (turns : ℕ) (program : Typed) (status : Status) (out err : List ℕ) : Type 0 where
   pub order : List ℕ
   pub thread : ℕ

@@ -45,8 +45,8 @@ pub record IsHistory (turns : ℕ) (changed : Bool) (program : Typed) (status : 
   pub written : out ≡ serial_text changed program (entries (all_calls program) (serial_run program turns).ends) (serial_run program turns).heap
   pub told : err ≡ []
 
--- the turns settle the calls before `this`, and `this` meets a loop that goes on after them: out is the text of the serial
--- meaning of the calls before it, and names this call; err is empty
+-- the turns settle the calls before `this`, and `this` meets a loop that goes on after them: out is the text of the
+-- serial meaning of the calls before it, and names this call; err is empty
 pub record StopsAtCall (turns : ℕ) (program : Typed) (status : Status) (out err : List ℕ) : Type 0 where
   pub before : List Scheduled
   pub this : Scheduled

@@ -13,8 +13,8 @@ use Rattle.report_runs.specs.Simulation.{simulation_of}
 use Rattle.driver.specs.declared.status.Status.{Status}
 use Rattle.driver.specs.declared.status.Status.TheVariants.{Done, BadInput}
 
--- the file's items expand to these turns: out is the text of the world after their steps, and the headline holds of these
--- steps; err is empty
+-- the file's items expand to these turns: out is the text of the world after their steps, and the headline holds of
+-- these steps; err is empty
 pub record IsWorldAfter (items : List ℕ) (plan : Plan) (status : Status) (out err : List ℕ) : Type 0 where
   pub turns : List Turn
   pub said : turns_in plan items ≡ Ok turns

@@ -9,8 +9,8 @@ use Rattle.driver.specs.declared.status.Status.{Status}
 use Rattle.driver.specs.declared.status.Status.TheVariants.{Done, Strange}
 use Rattle.driver.specs.Messages.{strange}
 
--- a run of the program: its calls, run whole one after another, end and print as its history says and leave these values;
--- each thread's entries are its whole script, in order, and there are no other entries
+-- a run of the program: its calls, run whole one after another, end and print as its history says and leave these
+-- values; each thread's entries are its whole script, in order, and there are no other entries
 pub record IsRunOf (plan : Plan) (run : Run) : Type 0 where
   pub history : IsHistoryOf plan run.log run.values
   -- the calls do the same in the program as it was accepted, with its helpers

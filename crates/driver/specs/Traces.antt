@@ -20,8 +20,8 @@ pub record IsTold (moves all : Bool) (text items : List ℕ) (plan : Plan) (stat
   pub written : out ≡ trace_text text plan moves all (steps_of turns)
   pub told : err ≡ []
 
--- the answers of `trace` for a program with this text and a steps file's text; `moves` and `all` say whether instructions
--- and idle steps are reported
+-- the answers of `trace` for a program with this text and a steps file's text; `moves` and `all` say whether
+-- instructions and idle steps are reported
 pub data IsTraceAnswer (moves all : Bool) (steps_file text items : List ℕ) (plan : Plan) (status : Status) (out err : List ℕ) : Type 0 where
   traced : IsTold moves all text items plan status out err → IsTraceAnswer moves all steps_file text items plan status out err
   bad_steps : HasBadSteps steps_file items plan status out err →

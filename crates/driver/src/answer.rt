@@ -309,8 +309,8 @@ pub fn beside_answer(
     }
 }
 
-/// Runs each script of the program of `source` in a thread of its own, and returns the answer to `run`; or the answer that
-/// reports the fault of `source`.
+/// Runs each script of the program of `source` in a thread of its own, and returns the answer to `run`; or the answer
+/// that reports the fault of `source`.
 pub fn threads_answer<R: Threads + Wait + Sync>(
     rt: &R,
     alloc: Global,

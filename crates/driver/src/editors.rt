@@ -40,10 +40,10 @@ fn tell_end<O: Write, E: Write>(end: End, streams: &mut Streams<O, E>)
 /// message to `writer` before it reads the next one. Only `err` of `streams` is used. Returns how that ended:
 ///
 /// - `Done`: the editor asked to exit, after it had asked to shut down.
-/// - `Refused`: the editor asked to exit without having asked to shut down; or the rest of the input does not begin with a
-///   frame, for example because the input ended.
+/// - `Refused`: the editor asked to exit without having asked to shut down, or the rest of the input does not begin with
+///   a frame, for example because the input ended.
 /// - `Failed`: reading or writing failed, which is reported on `err`.
-/// - `OutOfMemory`: a growth was refused, also for the answer that says so; that is reported on `err`.
+/// - `OutOfMemory`: a growth was refused, also for the answer that says so, which is reported on `err`.
 pub fn lsp<R: BufRead, W: Write, O: Write, E: Write>(
     alloc: Global,
     reader: &mut R,

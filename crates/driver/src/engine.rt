@@ -26,8 +26,8 @@ pub(crate) const SOURCE_LIMIT: u64 = limits::SOURCE_LIMIT as u64;
 /// A number of bytes that no file exceeds.
 const ALL_BYTES: u64 = u64::MAX - 1;
 
-/// Answers a request that reads only the program's file, which is `source`. Threads come from `threads`. The text of the
-/// answer is written to `out`, its message to `err`. Returns how that ended:
+/// Answers a request that reads only the program's file, which is `source`. Threads come from `threads`. The text of
+/// the answer is written to `out`, its message to `err`. Returns how that ended:
 ///
 /// - `Done`: what was asked for was written to `out`.
 /// - `Refused`: the program has a fault, which is reported on `err`, or on `out` where it is to be explained. Where the
@@ -91,8 +91,8 @@ pub fn serve_report<S: Read, O: Write, E: Write>(
     streams.give(&answer)
 }
 
-/// Answers a request that reads the program's file `source` and a second file `other`, both of which are read before either
-/// is judged. Ends as [`serve`] does, or with one of two more statuses:
+/// Answers a request that reads the program's file `source` and a second file `other`, both of which are read before
+/// either is judged. Ends as [`serve`] does, or with one of two more statuses:
 ///
 /// - `BadInput`: `other` has a fault, which is reported on `err`.
 /// - `Differs`: a line of a history is not one that may come there.
@@ -183,8 +183,8 @@ pub fn serial<S: Read, O: Write, E: Write>(
     serve_report(alloc, report, source, streams)
 }
 
-/// Runs the steps of the file `steps` over the threads of the program of `source`, and writes the text of the world after
-/// them. Ends as [`serve_beside`] does.
+/// Runs the steps of the file `steps` over the threads of the program of `source`, and writes the text of the world
+/// after them. Ends as [`serve_beside`] does.
 pub fn simulate<S: Read, T: Read, O: Write, E: Write>(
     alloc: Global,
     source: &mut SourceText<'_, S>,
@@ -201,8 +201,8 @@ pub fn simulate<S: Read, T: Read, O: Write, E: Write>(
     serve_beside(alloc, Beside::Simulate, source, steps, streams)
 }
 
-/// Compares the history in `history` with what the calls of the program of `source` answer, one after another, and writes
-/// the verdict. Ends as [`serve_beside`] does.
+/// Compares the history in `history` with what the calls of the program of `source` answer, one after another, and
+/// writes the verdict. Ends as [`serve_beside`] does.
 pub fn replay<S: Read, T: Read, O: Write, E: Write>(
     alloc: Global,
     judging: ReplayOptions,

@@ -23,7 +23,8 @@ use source::memory::NoMemory;
 use std::alloc::Global;
 use std::io::{Read, Write};
 
-/// `text`, in colours where `color` asks for them. `Auto` has been settled by the program, and leaves the text as it is.
+/// `text`, in colours where `color` asks for them. `Auto` has been settled by the program, and leaves the text as it
+/// is.
 fn in_color(alloc: Global, color: Color, text: String) -> Result<String, NoMemory>
     ensures { IfOk result (λ out. string_bytes out ≡ in_color color (string_bytes text)) }
 {
@@ -126,10 +127,10 @@ fn explain_answer(
     }
 }
 
-/// Explains the fault of the program of `source`: writes to `out` the line that reports the fault, its source line, notes on
-/// where a lock order cycle comes from, a suggested fix, and further faults of names and types, in colours where `color`
-/// asks for them. Where `json` is true, the same is written as a JSON object in one line. Returns how that ended, as
-/// [`serve`](crate::serve) does, but:
+/// Explains the fault of the program of `source`: writes to `out` the line that reports the fault, its source line,
+/// notes on where a lock order cycle comes from, a suggested fix, and further faults of names and types, in colours
+/// where `color` asks for them. Where `json` is true, the same is written as a JSON object in one line. Returns how
+/// that ended, as [`serve`](crate::serve) does, but:
 ///
 /// - `Refused`: the program has a fault, and its explanation was written to `out`; nothing was written to `err`.
 /// - `Done`: the program does not have a fault. Written to `out` were the line `accepted`, the lock class of each rank, the

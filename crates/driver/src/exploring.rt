@@ -165,7 +165,8 @@ impl Exploring<'_> {
         found
     }
 
-    /// The answer that reports the calls of `order`, and the next call of `thread`, which the turns don't settle after them.
+    /// The answer that reports the calls of `order`, and the next call of `thread`, which the turns don't settle after
+    /// them.
     fn stopped(&self, alloc: Global, order: &[usize], thread: usize) -> Result<Answer, NoMemory>
         requires checked { IsChecked self.now.prepared.now.program.now }
         requires expansion { IsExpansion self.now.prepared.now.program.now self.now.prepared.now.written.now }
@@ -185,7 +186,8 @@ impl Exploring<'_> {
         Ok(Answer::written(alloc, Status::Unsettled, Rope::of(alloc, out)))
     }
 
-    /// The answer that reports the ends that the search finds, distinguished by `asked`, and whether they are as expected.
+    /// The answer that reports the ends that the search finds, distinguished by `asked`, and whether they are as
+    /// expected.
     fn looked_at(
         &self,
         alloc: Global,
@@ -223,8 +225,8 @@ impl Exploring<'_> {
         }
     }
 
-    /// The answer that reports how the cells, and if asked for the calls, can end over the explored orders, and whether that
-    /// is as expected.
+    /// The answer that reports how the cells, and if asked for the calls, can end over the explored orders, and whether
+    /// that is as expected.
     fn explored(&self, alloc: Global, expected: Option<&Expected<'_>>) -> Result<Answer, NoMemory>
         requires checked { IsChecked self.now.prepared.now.program.now }
         requires expansion { IsExpansion self.now.prepared.now.program.now self.now.prepared.now.written.now }
@@ -278,8 +280,8 @@ impl Exploring<'_> {
         }
     }
 
-    /// The answer to `outcomes`: how the cells, and if asked for the calls, can end over the explored orders, and, where
-    /// something is expected, whether that is as expected.
+    /// The answer to `outcomes`: how the cells, and if asked for the calls, can end over the explored orders, and,
+    /// where something is expected, whether that is as expected.
     pub fn answer(&self, alloc: Global) -> Result<Answer, NoMemory>
         requires checked { IsChecked self.now.prepared.now.program.now }
         requires expansion { IsExpansion self.now.prepared.now.program.now self.now.prepared.now.written.now }

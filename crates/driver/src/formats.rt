@@ -35,8 +35,8 @@ fn format_answer(alloc: Global, source: &Named<'_>) -> Result<Answer, NoMemory>
     }
 }
 
-/// Writes the text of `source` to `out` in its layout: the same tokens and comments, with other gaps between them. Names and
-/// types are not checked. Returns how that ended, as [`serve`](crate::serve) does:
+/// Writes the text of `source` to `out` in its layout: the same tokens and comments, with other gaps between them.
+/// Names and types are not checked. Returns how that ended, as [`serve`](crate::serve) does:
 ///
 /// - `Done`: the layout was written to `out`.
 /// - `Refused`: the text has a lexical or a syntax fault, which is reported on `err`.

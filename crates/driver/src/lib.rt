@@ -5,11 +5,12 @@
 //! files and outputs, whatever it answers; `specs/Requests.antt` says what is answered to each request, by the file of
 //! `specs` that is named below.
 //!
-//! - [`serve`]: answers each request that reads only the program's file; [`serve_beside`]: each that reads a second file.
-//! - [`serve_report`]: reports on an accepted program, without threads: the order in which it acquires its locks, and the
-//!   locks before each statement, also as [`check`] (`Checks`); the instructions of each section, also as [`listing`]
-//!   (`Listings`); its sections in C (`Emissions`); all its calls one after another, also as [`serial`] (`Serial`); how its
-//!   cells can end, over the orders of its calls (`Outcomes`); a steps file of it (`Schedules`).
+//! - [`serve`]: answers each request that reads only the program's file. [`serve_beside`]: answers each that reads a second
+//!   file.
+//! - [`serve_report`]: reports on an accepted program, without threads. A report is one of these: the order in which the
+//!   program acquires its locks, with the locks before each statement, also as [`check`] (`Checks`), the instructions of
+//!   each section, also as [`listing`] (`Listings`), the sections in C (`Emissions`), all calls one after another, also as
+//!   [`serial`] (`Serial`), the ends of the cells, over the orders of the calls (`Outcomes`), or a steps file (`Schedules`).
 //! - [`order_graph`]: which lock class has to come before which, as a graph (`OrderGraphs`).
 //! - [`explain`]: the fault of a program, with its place in the source (`Explanations`). [`explain_code`]: what a code means
 //!   (`Pages`).
@@ -17,16 +18,16 @@
 //! - [`lsp`]: answers an editor's messages in turn (`Editors`).
 //! - [`run`]: a history of the program's scripts, each run by a thread of its own, or how a number of such runs differ
 //!   (`ThreadRuns`).
-//! - [`simulate`]: the world after the steps of a steps file (`Simulations`). The steps one after another, and the world
+//! - [`simulate`]: the world after the steps of a steps file (`Simulations`), or the steps one after another, and the world
 //!   after them (`Traces`). [`replay`]: the verdict on a recorded history, and why it differs (`Replays`).
 //! - [`Status`]: how a command ended, which is the exit status.
-//! - [`SourceText`]: a file to read; [`ReadError`]: why it was not read. [`Streams`]: the two outputs, each a [`Sink`].
+//! - [`SourceText`]: a file to read. [`ReadError`]: why it was not read. [`Streams`]: the two outputs, each a [`Sink`].
 //!
 //! How it is proved: an engine has three layers. One reads all files (`Streams::read`). One is a pure function from
 //! bytes and a request to a status and two texts (`report_answer`, `explain_answer`, `beside_answer`; `threads_answer`
-//! is not pure). One writes the answer (`Streams::give`), piece by piece, since its first text is a rope. That an answer
-//! that was written is what `Serves` asks is one lemma over any answers and files (`proofs/ServingLemmas`), and one for
-//! the engines of one file, whose text may be cut (`proofs/AloneLemmas`).
+//! is not pure). One writes the answer (`Streams::give`), piece by piece, since its first text is a rope. One lemma
+//! over any answers and files says that an answer that was written is what `Serves` asks (`proofs/ServingLemmas`), and
+//! another says this of the engines of one file, whose text may be cut (`proofs/AloneLemmas`).
 #![tactic(auto)]
 
 mod answer;

@@ -55,8 +55,8 @@ fn told_line(alloc: Global, source: &Named<'_>, fault: &Fault) -> Result<String,
     Ok(told)
 }
 
-/// The answer to `order` where the lock classes are on a cycle: the graph with the cycle's edges marked, and the fault's
-/// line.
+/// The answer to `order` where the lock classes are on a cycle: the graph with the cycle's edges marked, and the
+/// fault's line.
 fn cyclic(alloc: Global, source: &Named<'_>, found: &Cyclic) -> Result<Answer, NoMemory>
     requires { IsCyclic source.now.text.now found.now }
     ensures { IfOk result (Meets (OrderAnswers source.now.file.now source.now.text.now)) }
@@ -99,8 +99,9 @@ fn order_answer(alloc: Global, source: &Named<'_>) -> Result<Answer, NoMemory>
     }
 }
 
-/// Writes which lock class of the program of `source` has to come before which, as a graph. Ends as [`serve`](crate::serve)
-/// does. Where the classes are on a cycle, it ends with `Refused`, and the cycle's edges are marked in the graph.
+/// Writes which lock class of the program of `source` has to come before which, as a graph. Ends as
+/// [`serve`](crate::serve) does. Where the classes are on a cycle, it ends with `Refused`, and the cycle's edges are
+/// marked in the graph.
 pub fn order_graph<S: Read, O: Write, E: Write>(
     alloc: Global,
     source: &mut SourceText<'_, S>,

@@ -63,8 +63,8 @@ pub fn prepared(alloc: Global, program: &Program) -> Result<Prepared<'_>, NoMemo
     Prepared::new(alloc, program.typed(), program.expanded())
 }
 
-/// Runs `calls` one after another from the opening heap, up to the first call that `turns` turns of each execution of a loop
-/// don't settle.
+/// Runs `calls` one after another from the opening heap, up to the first call that `turns` turns of each execution of a
+/// loop don't settle.
 pub fn run_calls<'a>(
     alloc: Global,
     prepared: &Prepared<'_>,
@@ -99,8 +99,8 @@ pub fn run_calls<'a>(
     })
 }
 
-/// Runs all calls of `program` one after another, thread 0's whole script first, up to the first call that `turns` turns of
-/// each execution of a loop don't settle.
+/// Runs all calls of `program` one after another, thread 0's whole script first, up to the first call that `turns`
+/// turns of each execution of a loop don't settle.
 pub fn run_scripts<'a>(
     alloc: Global,
     program: &'a Typed,

@@ -29,8 +29,8 @@ pub fn bad_steps(alloc: Global, steps: &Named<'_>, fault: StepsFault) -> Result<
     Answer::refused(alloc, Status::BadInput, line)
 }
 
-/// The turns that the items of a steps file expand to. Where the text has a `T!` or a `T+`, this runs the steps to find how
-/// many they are; the caller runs them once more.
+/// The turns that the items of a steps file expand to. Where the text has a `T!` or a `T+`, this runs the steps to find
+/// how many they are; the caller runs them once more.
 ///
 /// # Errors
 ///

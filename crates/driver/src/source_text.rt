@@ -27,8 +27,8 @@ pub enum ReadError {
     OutOfMemory,
 }
 
-/// Reads all the bytes that `reader` has left, or the first `most + 1` of them where they are more than `most`. After an
-/// error the reader stands somewhere in them, and must not be read further.
+/// Reads all the bytes that `reader` has left, or the first `most + 1` of them where they are more than `most`. After
+/// an error the reader stands somewhere in them, and must not be read further.
 fn read_up_to<R: Read>(alloc: Global, reader: &mut Take<R>, most: u64) -> Result<Vec<u8>, ReadError>
     requires { most + 1 < 2 ^ 64 }
     ensures bytes { IfOk result
@@ -84,8 +84,8 @@ impl<'a, R: Read> SourceText<'a, R> {
         self.name
     }
 
-    /// Reads all the bytes that are left, or the first `most + 1` of them where they are more than `most`. After an error
-    /// the reader stands somewhere in them, and must not be read further.
+    /// Reads all the bytes that are left, or the first `most + 1` of them where they are more than `most`. After an
+    /// error the reader stands somewhere in them, and must not be read further.
     ///
     /// # Errors
     ///

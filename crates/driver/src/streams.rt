@@ -51,8 +51,8 @@ impl<O: Write, E: Write> Streams<O, E> {
         self.err.put(b"autolock: cannot write\n");
     }
 
-    /// Reads a file, at most one byte past `most`. Where it is not read, that is reported, and the error is the status with
-    /// which the command ends.
+    /// Reads a file, at most one byte past `most`. Where it is not read, that is reported, and the error is the status
+    /// with which the command ends.
     pub(crate) fn read<R: Read>(
         &mut self,
         alloc: Global,

@@ -12,8 +12,8 @@ use rope::Rope;
 use source::memory::NoMemory;
 use std::alloc::Global;
 
-/// The answer to `trace`: a line for each reported step of a steps file, and the text of the world after them; or the fault
-/// of the file.
+/// The answer to `trace`: a line for each reported step of a steps file, and the text of the world after them; or the
+/// fault of the file.
 pub fn traced(alloc: Global, trace: &Trace<'_>, steps: &Named<'_>) -> Result<Answer, NoMemory>
     ensures { IfOk result
         (Meets

@@ -28,6 +28,6 @@ added command result rule is a adds same first =
 pub is_simple-autolock : is_simple autolock ≡ true
 is_simple-autolock = refl
 
--- and the kinds of its errors
+-- clap's definitions cover the kinds of its errors
 pub is_simple_and_free-autolock : is_simple_and_free autolock ≡ true
 is_simple_and_free-autolock = refl

@@ -20,7 +20,7 @@ prefix_of_take (suc n) (x ∷ xs) = prefix_step (is_in_line x) n _ _ (prefix_of_
 dots_of_more : (n : ℕ) → SIDE < n → dots n ≡ codes ".."
 dots_of_more n lt = let more : nat_lt SIDE n ≡ true = lt-ltb SIDE n lt in rw more refl
 
--- a count that is cut to one past what is shown is as many
+-- cutting a count one past what is shown does not change how many dots there are
 pub dots_alike : (n k : ℕ) → SIDE < n → dots (min n k) ≡ dots k
 dots_alike n k lt =
     ⊎_elim
@@ -31,7 +31,7 @@ dots_alike n k lt =
     (λ (few : k ≤ n). let whole : min n k ≡ k = omega arith in rw whole refl)
     (cases_lt n k)
 
--- the last of a list, from after
+-- the last `n` items of a list, read from the end
 last_reversed : (n : ℕ) (xs : List ℕ) → reverse (drop (length xs - n) xs) ≡ take n (reverse xs)
 last_reversed n xs =
     let k = length xs - n in
@@ -58,6 +58,6 @@ suffix_of_last n xs =
     let same : length xs - min (length xs) n ≡ length xs - n = omega arith in
     ap (λ i. suffix_len is_in_line (drop i xs)) same ∙ suffix_of_drop n xs
 
--- the given number of them is shown
+-- the number of shown bytes does not depend on the cut
 pub shown_alike : (n k : ℕ) → SIDE < n → min SIDE (min n k) ≡ min SIDE k
 shown_alike n k more = omega arith

@@ -7,7 +7,7 @@ use Rattle.std.proofs.lemmas.List.{take_all, length-drop}
 use Rattle.source.specs.Texts.{is_name_byte}
 use Rattle.explanation.specs.Json.{WORD, word_length, end_of}
 
--- the given number of bytes of a word is that of all its bytes, without what follows
+-- taking at most a word's length of bytes does not depend on what follows the word
 take_least : (xs : List ℕ) → take (min (length xs) WORD) xs ≡ take WORD xs
 take_least xs =
     ⊎_elim

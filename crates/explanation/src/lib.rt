@@ -1,15 +1,15 @@
-//! Explanations for a person: the line that reports a fault, the line of the source with a caret under the place, notes
-//! and a remedy; and for a program without a fault, notes on why it is accepted, and warnings.
+//! Explanations for a person: of a fault (the line that reports it, the line of the source with a caret under the place,
+//! notes, a remedy), or of a program without a fault (notes on why it is accepted, warnings).
 //!
-//! - [`Explanation`], [`Acceptance`]: those texts, as `specs/Explanation` defines them byte for byte.
+//! - [`Explanation`], [`Acceptance`]: the two texts, as `specs/Explanation` defines them byte for byte.
 //! - [`Further`]: the faults that are reported with another.
 //! - [`laws`]: a law of every shown place.
 //! - [`Note`]: a note on a further place, or on the text as a whole. [`Warning`]: a warning about an accepted program
-//!   that may not be as meant, and [`Warned`] what it says; `specs/Warnings` has its words.
-//! - [`fault_json`], [`accepted_json`]: the same as a JSON object on one line, which `specs/Json` defines. [`end_of`]:
+//!   that may not be as meant. [`Warned`]: what a warning says, in the words of `specs/Warnings`.
+//! - [`fault_json`], [`accepted_json`]: the two texts as a JSON object on one line, which `specs/Json` defines. [`end_of`]:
 //!   where a place ends. [`fault_words`]: the message of a fault. [`json_laws`]: laws of the JSON of every fault.
-//! - [`page`]: the page of a code, as `explain CODE` writes it; `specs/CodePages` has it line by line. [`remedy_of`]:
-//!   what can be done about a fault of a code.
+//! - [`page`]: the page of a code, as `explain CODE` writes it, and `specs/CodePages` defines it. [`remedy_of`]: what can
+//!   be done about a fault of a code.
 //! - [`CursorMarks`]: a text with marks, to find many positions in any order.
 //! - [`push_source_line`]: the line of the source at a place.
 //!

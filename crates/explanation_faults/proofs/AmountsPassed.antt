@@ -103,7 +103,7 @@ total_more : (of : Decl → ℕ) (at : ℕ) (ds : List Decl) (k : ℕ) (d : Decl
     total of (take (k + 1) ds) ≡ total of (take k ds) + of d
 total_more of at ds k d listed = ap (λ (n : ℕ). total of (take n ds)) (add-one k) ∙ total_next of at ds k d listed
 
--- the thread at this place is the one
+-- the thread at this place passes the limit first
 pub is_last : (decls : List Decl) (at k : ℕ) (d : Decl) → slice_get decls k ≡ Some d → begins at (declared d) ≡ true →
     ends_few decls k ≡ true →
     IsFirstOver calls_of decls at CALL_LIMIT
@@ -123,7 +123,7 @@ is_last decls at k d listed starts ends =
       many = omega (arith, many, next);
     }
 
--- and where one is, its place is such a one
+-- the thread that passes the limit first begins at `at`
 pub ends_there : (decls : List Decl) (at : ℕ) (p : IsFirstOver calls_of decls at CALL_LIMIT) →
     (begins at (declared p.decl) ≡ true) × (ends_few decls p.place ≡ true)
 ends_there decls at p =
@@ -138,7 +138,7 @@ ends_there decls at p =
 
 -- ---- the cells of an object
 
--- the first of a name is the one at this place, or one ahead
+-- the first member of a name is the one at this place, or one before it
 self_first : (ms : List Member) (q : List ℕ) (n k : ℕ) (m : Member) → slice_get ms k ≡ Some m →
     member_bears m q ≡ true →
     is_at (n + k) (place_from (λ x. member_bears x q) n ms) ≡ not (is_some (place_from (λ x. member_bears x q) n (take k ms)))
@@ -174,7 +174,7 @@ no_final_field : (o : Option ℕ) (f : Final) → 0 ≡ new_field o (final_membe
 no_final_field (Some i) f = refl
 no_final_field None f = refl
 
--- a field counts where no member ahead has its name
+-- a field counts if no member before it has its name
 pub counted_new : (ms : List Member) (k : ℕ) (m : Member) → slice_get ms k ≡ Some m →
     field_count ms k m ≡ new_field (place_of member_bears (take k ms) (member_name m).text) m
 counted_new ms k (lock_member x) listed = no_lock_field (place_of member_bears (take k ms) x.text) x

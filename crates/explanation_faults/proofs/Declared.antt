@@ -37,7 +37,7 @@ module _ (top names : List Ident) (d : Decl) (at : ℕ) (same : names ≡ inner_
     of_no_body bare x (inside r) = not_inside x r
     of_no_body bare x (outside body b) = absurd cc
 
--- neither at the top nor in any declaration
+-- a name that is repeated neither at the top nor in a declaration is not declared twice
 pub not_declared : (decls : List Decl) (at : ℕ) → ((x : Ident) → Repeats (top_names decls) at x → ⊥) →
     ((k : ℕ) (d : Decl) → slice_get decls k ≡ Some d → (x : Ident) → IsDeclaredIn (top_names decls) d at x → ⊥) →
     (x : Ident) → IsDeclaredAs decls at x → ⊥

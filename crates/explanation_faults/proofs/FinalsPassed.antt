@@ -1,4 +1,5 @@
--- Along annotations: what the code finds is the first member that is no final reference, or that a final reference is too many.
+-- Along annotations: the code finds the first member that is not a final reference, or the final reference that is one
+-- too many.
 use Rattle.std.proofs.Common.{◌≡◌, ◌∙◌, ◌+◌, ◌≤◌, ℕ, Bool, true, false, List, [], ◌∷◌, ◌++◌, length, Option, Some, None}
 use Rattle.std.proofs.Common.{refl, sym, ap, ap₂, subst, eq-eqb, length-append}
 use Rattle.std.specs.List.{cons_option, filter_map}
@@ -25,7 +26,7 @@ use Rattle.explanation_faults.proofs.FirstBy.{some_first, first_from}
 use Rattle.explanation_faults.proofs.PassedMembers.{gone_on}
 use Rattle.explanation_faults.proofs.Places.{at_has, has_at}
 
--- ---- a member that is no final reference
+-- ---- a member that is not a final reference
 
 same_by : {A B : Type 0} (f g : A → Option B) → ((x : A) → f x ≡ g x) → (xs : List A) →
     filter_map f xs ≡ filter_map g xs
@@ -109,7 +110,7 @@ has_own decls st to y name zs rest x stays here = (x, here)
 has_own decls st to y name zs rest x (goes_on {next = next} step on) here = own_of decls st next (the_member st.members y.text) step
 
 module _ (decls : List Decl) (at : ℕ) (m : Member) where
-  -- what a walk with so many behind it comes to
+  -- the member at which a walk over `n` final references stops
   abbrev comes : Ident → ℕ → Option (List Member) → Ident → List Ident → Option Member
   comes first n members y zs = met_along (FinalTooMany at) decls first n members y zs
 
@@ -169,7 +170,7 @@ module _ (decls : List Decl) (at : ℕ) (m : Member) where
   from_next first st y z zs i f (Some (j, helper x)) here is e on = absurd (nothing_along first (length st.through + 1) z zs e)
   from_next first st y z zs i f (Some (j, thread x)) here is e on = absurd (nothing_along first (length st.through + 1) z zs e)
 
-  -- at a final reference: it is the one, or the walk goes on over it
+  -- a final reference is the one that is too many, or the walk goes on past it
   from_final : (first : Ident) (st : AnnotationCursor) (y z : Ident) (zs : List Ident) (i : ℕ) (f : Final) (b : Bool) →
       nat_le FINAL_LIMIT (length st.through) && (first.span.start == at) ≡ b → the_member st.members y.text ≡ Some (i, final_member f) →
       option_or (if b then Some (final_member f) else None) (comes first (length st.through + 1) (members_in (the_decl decls f.target.text)) z zs) ≡ Some m →
@@ -236,7 +237,7 @@ module _ (decls : List Decl) (at : ℕ) (m : Member) where
   finals_if e = let d = first_from (met_of (FinalTooMany at) decls) decls m e in in_decl d.0 d.1 d.2
 
 module _ (decls : List Decl) where
-  -- the reference itself is found, or one before it
+  -- the walk stops at this final reference, or at an earlier one
   along_far : (first : Ident) (own st : AnnotationCursor) (a y z : Ident) (names zs : List Ident) (i : ℕ) (f : Final) →
       Reaches decls own a names st y (z ∷ zs) → the_member st.members y.text ≡ Some (i, final_member f) → FINAL_LIMIT ≤ length st.through →
       (m : Member) × (met_along (FinalTooMany first.span.start) decls first (length own.through) (Some own.members) a names ≡ Some m)

@@ -19,7 +19,7 @@ module _ {A B : Type 0} (f : A → Option B) where
   further_some (Some y) ys rest = (y, refl)
   further_some None ys rest = rest
 
-  -- where some element gives something, something is first
+  -- if some element gives something, the list has a first such element
   pub some_first : (xs : List A) (x : A) (y : B) → Has xs x → f x ≡ Some y → (z : B) × (first_by f xs ≡ Some z)
   some_first [] x y has is = elim has [ ]
   some_first (w ∷ xs) x y first is = (y, of_front (f w) y (filter_map f xs) is)
@@ -31,12 +31,12 @@ module _ {A B : Type 0} (f : A → Option B) where
   from_front w ws (Some z) y gives is rest = (w, first, gives ∙ is)
   from_front w ws None y gives is rest = let r = rest is in (r.0, further r.1, r.2)
 
-  -- what is first is of some element
+  -- what the list gives first comes from one of its elements
   pub first_from : (xs : List A) (y : B) → first_by f xs ≡ Some y → (x : A) × Has xs x × (f x ≡ Some y)
   first_from [] y is = absurd cc
   first_from (w ∷ ws) y is = from_front w ws (f w) y refl is (first_from ws y)
 
-  -- the element that gives it, and none before gives anything
+  -- the element that gives `y`, before which no element gives anything
   pub record Given (xs : List A) (y : B) : Type 0 where
     pub before : List A
     pub x : A

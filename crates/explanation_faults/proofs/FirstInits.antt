@@ -10,7 +10,7 @@ use Rattle.syntax.specs.Views.{decl_of}
 use Rattle.resolution.specs.Scopes.{place_from}
 use Rattle.explanation_faults.specs.Inits.{gives_same}
 
--- what is no `init` gives nothing
+-- a declaration other than an `init` gives nothing
 pub gives_nothing : (j : Init) (d : the_decl.Decl) → ((i : the_init.Init) → d ≡ decl_case.Init i → ⊥) →
     gives_same j (decl_of d) ≡ false
 gives_nothing j (decl_case.Lock x) none = refl

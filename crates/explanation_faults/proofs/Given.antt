@@ -1,4 +1,4 @@
--- Of an `init` that gives what another one gives the first is found.
+-- Of two `init`s that give the same, the first is found.
 use Rattle.std.proofs.Common.{◌≡◌, ◌∙◌, ℕ, Bool, true, false, List, [], ◌∷◌, length, take, Option, Some, None, refl}
 use Rattle.std.proofs.Common.{sym, ap, subst, eq-eqb}
 use Rattle.std.specs.Prelude.{slice_get, ◌&&◌, ◌||◌, nat_lt, if◌then◌else◌}
@@ -187,7 +187,7 @@ module _ (decls : List Decl) (j : Init) (g : InitTarget) (gives_g : init_target_
   some_gives [] e = absurd cc
   some_gives (d ∷ ds) e = one_gives d ds (gives decls d g) refl e (some_gives ds)
 
--- an `init` is what gives
+-- only an `init` gives anything
 giver_is : (j : Init) (d : Decl) → gives_same j d ≡ true → (i : Init) × (d ≡ init i)
 giver_is j (init i) e = (i, refl)
 giver_is j (lock x) e = absurd cc

@@ -72,7 +72,7 @@ module _ (listed : ListedAreFaults) (all : FaultsAreListed) (decls : List Decl) 
   abbrev wanted : Mistake
   wanted = record { code = LimitExceeded; start = at }
 
-  -- a fault behind the one that is wanted
+  -- a fault after the one that is looked for
   abbrev behind : Mistake
   behind = record { code = RecursiveHelper; start = at }
 

@@ -77,7 +77,7 @@ begins_before : (b : Tok) (bs : List Tok) (start : ℕ) → b.span.start < start
 begins_before b bs start early rest zero d lt = early
 begins_before b bs start early rest (suc k) d lt = rest k d (omega arith)
 
--- of the tokens of what is left, those before one begin before it, and it begins there or later, in the text
+-- in the remaining text, the tokens before `t` begin before it, and `t` begins at `from` or later
 record Orders (total from : ℕ) (before : List Tok) (t : Tok) : Type 0 where
   pub later : from ≤ t.span.start
   pub within : t.span.start ≤ total

@@ -20,7 +20,7 @@ use Rattle.explanation_faults.specs.LimitsPassed.{parameter_names}
 use Rattle.explanation_names.specs.NameSpaces.{local_names}
 use Rattle.explanation_faults.proofs.FirstBy.{some_first, first_from}
 
--- ---- names past a limit
+-- ---- names after a limit
 
 past_more : (x : Ident) {at limit : ℕ} {names : List Ident} → IsPast at limit names → IsPast at (suc limit) (x ∷ names)
 past_more x p = record {
@@ -73,9 +73,9 @@ past_there at (suc limit) (y ∷ before) x after many starts = past_there at lim
 pub past_so : (at limit : ℕ) (names : List Ident) → IsPast at limit names → is_past at limit names ≡ true
 past_so at limit names p = ap (is_past at limit) p.parts ∙ past_there at limit p.before p.name p.after p.many p.starts
 
--- ---- the first that is said
+-- ---- the first limit that is reported
 
--- what is said is said of the first test, or of the others
+-- a report is that of the first test, or of the others
 said_of : (b : Bool) (own words : List ℕ) (o : Option (List ℕ)) (P : List ℕ → Type 0) →
     option_or (said_if b own) o ≡ Some words →
     (b ≡ true → P own) → (o ≡ Some words → P words) → P words
@@ -149,7 +149,7 @@ module _ (decls : List Decl) (at : ℕ) where
   of_one : (d : Decl) → Has decls d → IsSaid (limit_in at d) → IsSaid (limit_passed decls at)
   of_one d has said = also_said (limit_of_all at decls) (first_by (limit_in at) decls) (some_first (limit_in at) decls d said.0 has said.1)
 
-  -- the tests of the program, and what is said of each
+  -- the tests of the program, and the report of each
   abbrev BS : Bool
   BS = is_past at STRUCT_LIMIT (filter_map struct_name decls)
 

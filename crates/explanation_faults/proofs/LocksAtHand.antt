@@ -50,7 +50,7 @@ lacks : (at : ℕ) (x : Ident) (p : Option Protection) → lacks_lock at x p ≡
 lacks at x None is = (refl, eqb-true x.span.start at is)
 lacks at x (Some p) is = absurd cc
 
--- the field that lacks one
+-- a field without an annotation
 record LacksThere (at : ℕ) (ms : List Member) : Type 0 where
   pub field : Field
   pub has : Has ms (field_member field)

@@ -1,4 +1,4 @@
--- Final references, and what is given to them.
+-- Final references, and the values that `init`s give them.
 use Rattle.std.proofs.Common.{◌≡◌, ◌∙◌, ℕ, Bool, true, false, List, Option, Some, None, refl, sym, ap, subst, eq-eqb}
 use Rattle.std.proofs.Common.{eqb-true}
 use Rattle.std.specs.Prelude.{IsSome, if◌then◌else◌, slice_get}
@@ -30,7 +30,7 @@ use Rattle.explanation_faults.proofs.Given.{named_at}
 
 -- ---- the struct of a pool
 
--- the members of what is found
+-- the members of the declaration that is found
 pub same_members : (o : Option (ℕ × Decl)) → members_in o ≡ option_map (λ (s : ℕ × Struct). s.1.members) (struct_in o)
 same_members None = refl
 same_members (Some (i, lock x)) = refl
@@ -63,7 +63,7 @@ pub named_place : (ms : List Member) (q : List ℕ) (k : ℕ) (x : Member) → t
     place_of member_bears ms q ≡ Some k
 named_place ms q k x e = by_place ms k x (place_of member_bears ms q) e
 
--- ---- which are due
+-- ---- the final references that are due
 
 if_due : (b : Bool) (f g : Final) → (if b then Some f else None) ≡ Some g → (b ≡ true) × (f ≡ g)
 if_due true f g e = (refl, same_Some f g e)
@@ -88,14 +88,14 @@ due_found ms k (final_member g) f here e =
     let due = if_due (is_at k (place_of member_bears ms g.name.text)) g f e in
     subst (λ (h : Final). the_member ms h.name.text ≡ Some (k, final_member h)) due.1 (placed ms k (final_member g) g.name.text (place_of member_bears ms g.name.text) refl (at_place k (place_of member_bears ms g.name.text) due.0) here)
 
--- and what is found by its name is due
+-- a final reference that is found by its name is due
 pub found_due : (ms : List Member) (k : ℕ) (f : Final) → the_member ms f.name.text ≡ Some (k, final_member f) →
     due_final ms k (final_member f) ≡ Some f
 found_due ms k f e =
     ap (λ o. if is_at k o then Some f else None) (named_place ms f.name.text k (final_member f) e)
     ∙ ap (λ (b : Bool). if b then Some f else None) (eq-eqb k k refl)
 
--- ---- of faults
+-- ---- the faults
 
 not_some : {A : Type 0} (o : Option A) → IsSome o → o ≡ None → ⊥
 not_some (Some x) is none = absurd cc
@@ -107,7 +107,7 @@ same_text ms q m f e =
     let same : q ≡ f.name.text = (bytes_eq-Decides q f.name.text).0 (named_at member_bears ms q m (final_member f) e).bears in
     subst (λ (r : List ℕ). the_member ms r ≡ Some (m, final_member f)) same e
 
--- where no pool there has a gap, and no `init` there gives null, nothing is missing
+-- if no pool of that name lacks an `init`, and no `init` gives null, nothing is missing
 pub no_gap : (decls : List Decl) (at : ℕ) →
     ((place : ℕ) (p : Pool) → slice_get decls place ≡ Some (pool p) → IsWhole decls place p at) →
     null_given decls at ≡ None → IsFinalMissing decls at → ⊥
@@ -122,7 +122,7 @@ no_gap decls at whole none (given_null {i = i} {m = m} {f = f} {at = s} has fiel
     let e : None ≡ Some found.0 = sym none ∙ found.1 in
     absurd cc
 
--- ---- what is given null
+-- ---- a member that is given null
 
 null_there : (at : ℕ) (c : Const) → is_null_at at c ≡ true → (s : Span) × (c ≡ null_const s) × (s.start ≡ at)
 null_there at (null_const s) is = (s, refl, eqb-true s.start at is)
@@ -169,7 +169,7 @@ gap_from decls place p at members starts of_struct (Some found) is = record {
 gap_from decls place p at members starts of_struct None each = λ ms starts of_other.
     subst (λ (l : List Member). EachGiven decls place l p.length.value) (same_Some members ms (sym of_struct ∙ of_other)) each
 
--- the struct as it is found
+-- the struct of the pool, by how it is found
 pub gap_found : (decls : List Decl) (place : ℕ) (p : Pool) (at : ℕ) (i : ℕ) (s : Struct) → p.name.span.start ≡ at →
     Some (i, s) ≡ struct_in (the_decl decls p.target.text) → (r : Option (ℕ × Bor written_final.Final)) → FoundMissing decls place s.members p.length.value r →
     FoundGapOf decls place p at r
@@ -177,7 +177,7 @@ gap_found decls place p at i s starts found =
     gap_from decls place p at s.members starts
     (same_members (the_decl decls p.target.text) ∙ ap (option_map (λ (x : ℕ × Struct). x.1.members)) (sym found))
 
--- what is no pool
+-- a declaration other than a pool
 pub no_pool : (d : the_decl_.Decl) → ((p : the_pool.Pool) → d ≡ decl_case.Pool p → ⊥) → (q : Pool) →
     decl_of d ≡ pool q → ⊥
 no_pool (decl_case.Lock x) none q e = absurd cc

@@ -1,4 +1,4 @@
--- What is told of an unknown name.
+-- The notes on an unknown name.
 use Rattle.std.proofs.Common.{◌≡◌, ◌∙◌, ◌⊎◌, inl, inr, ℕ, List, Some, None, sym, subst}
 use Rattle.std.proofs.lemmas.Option.{same_Some}
 use Rattle.source.specs.Tokens.{Tok}
@@ -13,12 +13,12 @@ module _ (tokens : List Tok) (decls : List Decl) (at : ℕ) where
   pub no_name : None ≡ name_there at tokens → HasNearName tokens decls at → ⊥
   no_name none told = let e : None ≡ Some told.unknown = none ∙ told.there in cc
 
-  -- where there is no name, nothing is told
+  -- without a name at the place, there is no note
   pub none_told : None ≡ name_there at tokens → HasNearName tokens decls at ⊎ IsNullMeant tokens at → ⊥
   none_told none (inl near) = no_name none near
   none_told none (inr meant) = let e : None ≡ Some meant.unknown = none ∙ meant.there in cc
 
-  -- where `null` isn't meant by it, and no name is near
+  -- the name does not mean `null`, and no other name is near
   pub null_not_meant : (q : List ℕ) → name_there at tokens ≡ Some q → (HasNearName tokens decls at → ⊥) →
       (IsNullMeantBy tokens at q → ⊥) →
       HasNearName tokens decls at ⊎ IsNullMeant tokens at → ⊥

@@ -1,4 +1,4 @@
--- What the others of the first faults are.
+-- The other faults among the first faults of the tree.
 use Rattle.std.proofs.Common.{◌≡◌, ℕ, ◌≤◌, List, [], ◌∷◌, length, map, Bool, true, false, Some, None, refl, sym, ap, ◌∙◌, subst, ◌||◌}
 use Rattle.std.proofs.Common.{if◌then◌else◌, ◌⊎◌, inl, inr, ◌==◌, ◌&&◌, nat_lt, arith}
 use Rattle.std.proofs.lemmas.Bool.Decides.{nat_tests}
@@ -53,7 +53,7 @@ module _ (text : List ℕ) (code : Code) (at : ℕ) (tokens : List Tok) (decls :
   same_tree : (us : List Tok) (ds : List Decl) → HasTextTree text us ds → ds ≡ decls
   same_tree us ds h = one_tree tokens ds decls (subst (λ (l : List Tok). HasTree l ds) (only us few h.has_tokens) h.has_tree) has.has_tree
 
-  -- it isn't the first fault of the tree
+  -- the fault is not the first fault of the tree
   abbrev IsNotFirst : Type 0
   IsNotFirst = IsFirstFault decls code at → ⊥
 
@@ -81,7 +81,7 @@ module _ (text : List ℕ) (code : Code) (at : ℕ) (tokens : List Tok) (decls :
         let same = one_least decls (mistake_of f) asked (a_fault decls f least) first.is_fault (before decls f least) first.first in
         alike asked (subst (λ (m : Mistake). differ m asked ≡ true) same differs))
 
-    -- those behind the first of the tree's first faults are told with it
+    -- the first faults of the tree after the first one are reported with it
     pub with_first : (s : Firsts) → s ≡ the_firsts decls → AreFurther text code at (others_of asked s.more s.kept)
     with_first s is = by_kept s s.kept is refl
 
@@ -112,6 +112,6 @@ not_bad decls code p (names.out_of_range h) is = cc
 not_bad decls code p (names.lock_as_value h) is = cc
 not_bad decls code p (names.of_calls h) is = not_of_calls decls code p h is
 
--- nor is a bad byte one
+-- a bad byte is not such a fault
 pub with_bad : (text : List ℕ) (code : Code) (at : ℕ) → code ≡ BadCharacter → AreFurther text code at nothing_further
 with_bad text code at bad = none (λ us ds few has first. not_bad ds code at first.is_fault bad)

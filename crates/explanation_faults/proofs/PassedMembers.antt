@@ -1,4 +1,4 @@
--- Along an annotation, up to a member that is no final reference.
+-- Along an annotation, up to a member that is not a final reference.
 use Rattle.std.proofs.Common.{◌≡◌, ◌∙◌, ℕ, Bool, List, ◌∷◌, Option, Some, None, refl, ap, eq-eqb}
 use Rattle.std.specs.Option.{option_or}
 use Rattle.std.specs.Prelude.{◌==◌, if◌then◌else◌}
@@ -48,7 +48,7 @@ gone_on decls at st next y (Some (i, final_member f)) e = record {
   leads = at_next st.through (member_number st.members i (final_member f)) (the_decl decls f.target.text) next e;
 }
 
--- ---- where it stops
+-- ---- the end of a walk
 
 there : (at : ℕ) (m : Member) → (if at == at then Some m else None) ≡ Some m
 there at m = ap (λ (b : Bool). if b then Some m else None) (eq-eqb at at refl)

@@ -16,7 +16,7 @@ at_has [] k x e = absurd cc
 at_has (y ∷ xs) zero x e = rw (same_Some y x e) first
 at_has (y ∷ xs) (suc k) x e = further (at_has xs k x e)
 
--- the element behind some others
+-- the element that follows `before`
 pub at_front : {A : Type 0} (before behind : List A) (x : A) → slice_get (before ++ x ∷ behind) (length before) ≡ Some x
 at_front [] behind x = refl
 at_front (y ∷ before) behind x = at_front before behind x
@@ -41,7 +41,7 @@ pub found_passes : {A : Type 0} (p : A → Bool) (n : ℕ) (xs : List A) (k : �
 found_passes p n [] k e = absurd cc
 found_passes p n (x ∷ xs) k e = or_cases (p x) (some_pass p xs) n (place_from p (suc n) xs) k e (λ f. found_passes p (suc n) xs k f)
 
--- the first that passes: its place, and it
+-- the first element that passes, with its place
 pub record Passing {A : Type 0} (p : A → Bool) (n : ℕ) (xs : List A) : Type 0 where
   pub offset : ℕ
   pub element : A
@@ -73,11 +73,11 @@ pub passing : {A : Type 0} (p : A → Bool) (n : ℕ) (xs : List A) → some_pas
 passing p n [] some = absurd cc
 passing p n (x ∷ xs) some = passing_cons p n x xs (p x) refl some (passing p (suc n) xs)
 
--- of a whole list
+-- the same for a whole list
 pub passing_at : {A : Type 0} (p : A → Bool) (xs : List A) (r : Passing p 0 xs) → place_from p 0 xs ≡ Some r.offset
 passing_at p xs r = r.found ∙ ap Some (omega arith)
 
--- of a name that some bears
+-- the same for a name that some element bears
 pub named_passes : {A Q : Type 0} (is : A → Q → Bool) (xs : List A) (q : Q) (f : ℕ × A) → named is xs q ≡ Some f →
     some_pass (λ x. is x q) xs ≡ true
 named_passes is xs q f e = of_place (place_of is xs q) refl e

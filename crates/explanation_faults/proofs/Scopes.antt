@@ -1,4 +1,4 @@
--- The names of the locals so far are those that stand ahead in the text.
+-- The names of the locals in scope are those that come earlier in the text.
 use Rattle.std.proofs.Common.{◌≡◌, ◌∙◌, ℕ, zero, suc, true, List, [], ◌∷◌, ◌++◌, length, map, refl, sym, ap}
 use Rattle.std.proofs.Common.{append_assoc}
 use Rattle.std.proofs.lemmas.List.{map-append, append-nil}
@@ -38,7 +38,7 @@ left_named sc end = hidden_named (length sc.locals) end.locals
 one_named : (sc : Scope) (l : scopes.Local) → named (sc.locals ++ l ∷ []) ≡ named sc.locals ++ l.name ∷ []
 one_named sc l = map-append (λ (x : scopes.Local). x.name) sc.locals (l ∷ [])
 
--- behind what has some names, then what has others
+-- the names of `xs` and `ys`, appended in turn, are the names of `xs ++ ys`
 joined : (a b c : Texts) (xs ys : List Ident) → b ≡ a ++ texts xs → c ≡ b ++ texts ys → c ≡ a ++ texts (xs ++ ys)
 joined a b c xs ys e f = f ∙ ap (λ l. l ++ texts ys) e ∙ append_assoc a (texts xs) (texts ys) ∙ ap (λ l. a ++ l) (sym (two xs ys))
 
@@ -71,7 +71,7 @@ mutual
 
 -- ---- a statement among others
 
--- of names, those of one part, with those ahead of it; the locals at the part are those at the first, and these
+-- `names` has `part` after `before`; the locals at `part` are `first` and those named in `before`
 pub record Ahead (names part : List Ident) (first there : Texts) : Type 0 where
   pub before : List Ident
   pub behind : List Ident
@@ -129,7 +129,7 @@ entered_named sc (p ∷ ps) =
     joined (named sc.locals) (named next.locals) (named (entered next ps).locals) (p.name ∷ []) (params_named ps)
     (one_named sc _) (entered_named next ps)
 
--- a local is one of those of a declaration, behind the locals so far
+-- the local `x` is declared in some declaration, after the locals in scope
 pub record IsLocal (decls : List Decl) (sc : Scope) (x : Ident) : Type 0 where
   pub decl : Decl
   pub has : Has decls decl

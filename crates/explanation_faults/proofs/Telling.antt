@@ -1,4 +1,4 @@
--- From what is found to what is told.
+-- From what is found to what is reported.
 use Rattle.std.proofs.Common.{◌≡◌, Option, Some, None, Result, ℕ, List, subst, refl, sym}
 use Rattle.std.specs.Option.{option_map}
 use Rattle.std.specs.Prelude.{IfOk}
@@ -43,14 +43,14 @@ module _ (x : Faulty) (code kind : Code) (is : code ≡ kind) where
   told_if must (Some note) found = as_kind (Some note) found
   told_if must None none = as_kind None (λ told. let m = must told in none m.0 m.1)
 
-  -- what is found of a fault of this kind is what is told
+  -- what is found of a fault of this kind is what is reported
   pub told_as : (r : Result (Option written.Note) NoMemory) →
       (IsTold (tokens_of x) (decls_of x) kind x.at →
       (note : Note) × IsTrueNote (tokens_of x) (decls_of x) kind x.at note) →
       IfOk r (FoundNote (IsTrueNote (tokens_of x) (decls_of x) kind x.at)) → IfOk r (IsNoteIfTold x code)
   told_as r must found = IfOk-weaker r _ _ (told_if must) found
 
--- ---- what must be told
+-- ---- what must be reported
 
 module _ (decls : List Decl) (at : ℕ) where
   pub twice_told : IsDeclaredTwice decls at → (note : Note) × IsDeclaredNote decls at note
@@ -84,7 +84,7 @@ none_of_limits tokens decls at count amount finals helpers paths (finals_told is
 none_of_limits tokens decls at count amount finals helpers paths (helpers_told is) = helpers is
 none_of_limits tokens decls at count amount finals helpers paths (paths_told is) = paths is
 
--- ---- what is told of a var
+-- ---- the note on a `var`
 
 var_if : (x : Faulty) (o : Option written.Note) → option_map note_of o ≡ var_noted (tokens_of x) (decls_of x) x.at →
     IsNoteIfTold x UnstableBase o

@@ -1,4 +1,4 @@
--- The tokens of a text and their tree, and what these tell.
+-- The tokens of a text and their tree, and the notes from these.
 use Rattle.std.proofs.Common.{◌≡◌, ℕ, zero, suc, ◌<◌, ◌≤◌, List, [], ◌∷◌, ◌++◌, ◌∙◌, ap, length, slice_get}
 use Rattle.std.proofs.Common.{Option, Some, option_to_list, refl, sym, subst, arith, ⊎_elim, length-append}
 use Rattle.std.specs.Prelude.{All, codes}
@@ -51,7 +51,7 @@ alone P note is (suc k) d lt = absurd (omega arith)
 
 -- ---- texts without tokens
 
--- what the lexer says of a text that it refuses
+-- the fault that the lexer finds in a text that it refuses
 pub its_fault : (text : List ℕ) (found : Fault) → IsRefusal text (refusal.Fault found) →
     ((code : Code) (start : ℕ) → IsFault text code start → IsFaultAt code start (refusal.Fault found)) →
     ((ts : List Tok) → length text ≤ SOURCE_LIMIT → HasTokens text ts → refusal.Fault found ≡ refusal.NoMemory) → IsItsFault text found
@@ -63,7 +63,7 @@ pub limit_found : (text : List ℕ) (found : Fault) (at : ℕ) → IsItsFault te
 limit_found text found at is there =
     subst (λ (code : Code). IsFault text code at) there.0 (subst (λ (start : ℕ). IsFault text found.code start) there.1 is.0)
 
--- the fault is not the one of a limit that is found
+-- unless the fault that was found is a limit passed at this byte, the text passes no limit there
 pub no_limit : (text : List ℕ) (found fault : Fault) → IsItsFault text found →
     (IsLimitAt found fault.start → IsLimitAt fault found.start → ⊥) →
     (words : List ℕ) → fault.code ≡ LimitExceeded → IsTextLimit text fault.start words → ⊥
@@ -104,7 +104,7 @@ within_limit text none =
     ⊎_elim (λ (long : SOURCE_LIMIT < length text). absurd (none LimitExceeded 0 (too_big long))) (λ (few : length text ≤ SOURCE_LIMIT). few)
     (cases_lt SOURCE_LIMIT (length text))
 
--- what is told of tokens of the text is told of the text
+-- the notes on the tokens of the text are the notes on the text
 all_of_tokens : (text : List ℕ) (ts : List Tok) (code : Code) (at : ℕ) (notes : List Note) → length text ≤ SOURCE_LIMIT →
     HasTokens text ts → AreNotesOnTokens ts code at notes → AreTrueTextNotes text code at notes
 all_of_tokens text ts code at notes few has are =
@@ -113,14 +113,14 @@ all_of_tokens text ts code at notes few has are =
     (All-weaker (IsAdvice ts code at) (IsTrueTextNote text code at) (λ note is. of_advice few has is) are.advice are.advised.are_advice)
     (All-weaker (IsTrueTokenNote ts code at) (IsTrueTextNote text code at) (λ note is. of_tokens few has is) are.expected are.are_expected.are_true))
 
--- what is advised comes first
+-- advice comes first
 advice_first : (ts : List Tok) (code : Code) (at : ℕ) (notes : List Note) → AreNotesOnTokens ts code at notes → AreInOrder ts at →
     (note : Note) → IsAdvice ts code at note → slice_get notes 0 ≡ Some note
 advice_first ts code at notes are order note is =
     let told : are.advice ≡ note ∷ [] = are.advised.told order is.unexpected is.before is.place ∙ ap (λ (o : Option Note). option_to_list o) is.first in
     ap (λ (l : List Note). slice_get l 0) (are.parts ∙ ap (λ (l : List Note). l ++ are.expected) told)
 
--- what has no tree tells what its tokens do
+-- tokens without a tree give all notes
 pub without_tree : (text : List ℕ) (ts : List Tok) (code : Code) (at : ℕ) (notes : List Note) → IsFaultless text →
     (IsMarkFault text code at → ⊥) → HasTokens text ts →
     Only text ts → ((ds : List Decl) → HasTree ts ds → ⊥) → AreNotesOnTokens ts code at notes → AreTextNotes text code at notes
@@ -146,7 +146,7 @@ all_of_tree : (text : List ℕ) (ts : List Tok) (ds : List Decl) (code : Code) (
 all_of_tree text ts ds code at notes few has all =
     All-weaker (IsTrueNote ts ds code at) (IsTrueTextNote text code at) (λ note is. of_tree few has is) notes all
 
--- tokens with a tree have none that is unexpected
+-- tokens with a tree have no unexpected token
 no_unexpected : (ts : List Tok) (ds : List Decl) (at : ℕ) → HasTree ts ds → IsUnexpected ts at → ⊥
 no_unexpected ts ds at tree fault = fault.no_program ds fault.after (subst (Spells ds) fault.parts tree.0)
 
@@ -167,7 +167,7 @@ with_tree text ts ds code at notes one no_fault other has only tree are = let fe
   limited = λ words is limit. absurd (no_fault LimitExceeded at (fault_of limit));
 }
 
--- what is told of a byte order mark
+-- the notes on a byte order mark
 pub of_its_mark : (text : List ℕ) (code : Code) (at : ℕ) → IsMarkFault text code at →
     AreTextNotes text code at (note_of_all mark_words ∷ [])
 of_its_mark text code at mark = record {

@@ -1,4 +1,4 @@
--- Of a name that is declared twice the first is found.
+-- Of two declarations of one name, the first is found.
 use Rattle.std.proofs.Common.{◌≡◌, ◌∙◌, ℕ, Bool, true, List, [], ◌∷◌, ◌++◌, length, map, Option, Some, None, refl, sym}
 use Rattle.std.proofs.Common.{ap}
 use Rattle.std.specs.Prelude.{◌||◌}
@@ -18,7 +18,7 @@ use Rattle.explanation_faults.proofs.Scopes.{texts, bound_local}
 abbrev same_as : List ℕ → Ident → Bool
 same_as q x = ident_bears x q
 
--- ---- a name that some ahead of it bears
+-- ---- a name that an earlier one repeats
 
 pub repeats : (names before behind : List Ident) (x : Ident) → names ≡ before ++ x ∷ behind →
     some_pass (same_as x.text) before ≡ true →

@@ -1,4 +1,4 @@
--- What is noted of a `var`.
+-- The notes on a `var`.
 use Rattle.std.proofs.Common.{◌≡◌, ◌∙◌, ℕ, List, Option, Some, sym, ap}
 use Rattle.std.specs.Prelude.{slice_get}
 use Rattle.explanation.specs.Notes.{Note}

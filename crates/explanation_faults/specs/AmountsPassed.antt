@@ -16,7 +16,7 @@ pub record IsFirstOver (of : Decl → ℕ) (decls : List Decl) (at limit : ℕ) 
   pub few : total of (take place decls) ≤ limit
   pub many : limit < total of (take place decls) + of decl
 
--- the words on such a limit that is exceeded at this byte
+-- E15, for objects, cells and calls
 pub data IsAmountPassed (decls : List Decl) (at : ℕ) : List ℕ → Type 0 where
   objects : IsFirstOver objects_of decls at OBJECT_LIMIT →
       IsAmountPassed decls at (codes "a program has at most 65536 objects")

@@ -35,15 +35,17 @@ use Rattle.explanation_faults.specs.Words.{name_note, note_on, note_of_all}
 
 -- ---- words
 
--- the note on the declaration of a name
+-- E05, at the first name that the later one must differ from and does not; for a local with a name of the top level, at
+-- that name
 abbrev pub declared_note : Ident → Note
 declared_note x = name_note x (codes " is declared here")
 
--- the note on a declared name that could be meant
+-- E06, for a name of more than one letter: at the nearest name that could stand there, and of equally near ones at the
+-- first in the text
 abbrev pub near_note : Ident → Note
 near_note x = name_note x (codes " could be meant, and is declared here")
 
--- the note that `null` could be meant
+-- E06, if only `null` is near, and the tokens with it have a tree
 abbrev pub null_meant_note : Note
 null_meant_note = note_of_all (codes "`null` could be meant")
 
@@ -51,11 +53,12 @@ null_meant_note = note_of_all (codes "`null` could be meant")
 abbrev pub lock_words : Ident → List ℕ
 lock_words x = codes " could protect it: protected_by(" ++ x.text ++ codes ")"
 
--- the note on such a lock
+-- E10, at the first lock of the field's struct; for a field of a struct without a lock, a global or an array, at the
+-- first lock of the top level
 abbrev pub lock_note : Ident → Note
 lock_note x = name_note x (lock_words x)
 
--- the note on a member that is not a final reference
+-- E12, at the name of the member that the annotation passes
 abbrev pub passed_note : Member → Note
 passed_note m = name_note (member_name m) (codes " is declared here, and is no final reference")
 
@@ -63,47 +66,47 @@ passed_note m = name_note (member_name m) (codes " is declared here, and is no f
 abbrev pub gap_words : Pool → ℕ → List ℕ
 gap_words p n = codes " is final, and no init gives it for " ++ p.name.text ++ codes "[" ++ decimal n ++ codes "]"
 
--- the note on a final reference that no `init` gives for the member P[N]
+-- E16, at the name of the final reference: the first member of the pool for which no `init` gives it
 abbrev pub gap_note : Pool → ℕ → Final → Note
 gap_note p n f = name_note f.name (gap_words p n)
 
--- the note on a final reference that is set to null
+-- E16, at the name of the final reference that an `init` sets to null
 abbrev pub null_note : Final → Note
 null_note f = name_note f.name (codes " is final, and is never null")
 
--- the note on an earlier `init` of a field
+-- E17, for a second `init` of a field: at the first
 abbrev pub given_note : Init → Note
 given_note i = note_on i.start.start (i.field.text ++ codes " is given here")
 
--- the note on a name whose body lacks its `return`
+-- E18, at the name of the section or helper
 abbrev pub missing_note : Ident → Note
 missing_note x = name_note x (codes " has a result, and its body does not end in a return")
 
--- the note on a name that lacks its result type
+-- E18, for a `return` in a section or helper without a result type: at its name
 abbrev pub typeless_note : Ident → Note
 typeless_note x = name_note x (codes " has no result type: write one after its parameters, as : int")
 
--- the note on a misplaced `return`
+-- E18, for each other misplaced `return`
 abbrev pub misplaced_note : Note
 misplaced_note = note_of_all (codes "this return is not the last statement of a body with a result")
 
--- the words on the limit of final references
+-- E15, for the final references of an annotation
 abbrev pub finals_words : List ℕ
 finals_words = codes "an annotation goes over at most 3 final references"
 
--- the words on the limit of lock paths
+-- E15, for the lock paths of a section
 abbrev pub path_words : List ℕ
 path_words = codes "a section has at most 64 lock paths that differ"
 
 -- ---- truth, given the fault's code
 
--- E05: the place of the declaration with the same name
+-- the note on the earlier declaration of the name
 pub record IsDeclaredNote (decls : List Decl) (at : ℕ) (note : Note) : Type 0 where
   pub name : Ident
   pub declared : IsDeclaredAs decls at name
   pub said : note ≡ declared_note name
 
--- a name that could stand in place of this one is similar to it
+-- a name that could stand in place of this one is near to it
 pub record HasNearName (tokens : List Tok) (decls : List Decl) (at : ℕ) : Type 0 where
   pub unknown : List ℕ
   pub there : name_there at tokens ≡ Some unknown
@@ -111,7 +114,7 @@ pub record HasNearName (tokens : List Tok) (decls : List Decl) (at : ℕ) : Type
   pub could : CouldStand decls at name
   pub near : IsNear unknown name.text
 
--- E06: the most similar of the names that could stand in place of the unknown one
+-- the note on the nearest of the names that could stand in place of the unknown one
 pub record IsNearNote (tokens : List Tok) (decls : List Decl) (at : ℕ) (note : Note) : Type 0 where
   pub unknown : List ℕ
   pub there : name_there at tokens ≡ Some unknown
@@ -119,25 +122,25 @@ pub record IsNearNote (tokens : List Tok) (decls : List Decl) (at : ℕ) (note :
   pub nearest : IsNearestOf (CouldStand decls at) unknown name
   pub said : note ≡ near_note name
 
--- `null`, where no name is similar
+-- the note on `null`, if no name is near
 pub record IsNullMeantNote (tokens : List Tok) (decls : List Decl) (at : ℕ) (note : Note) : Type 0 where
   pub none : HasNearName tokens decls at → ⊥
   pub meant : IsNullMeant tokens at
   pub said : note ≡ null_meant_note
 
--- E10: a lock that could protect it
+-- the note on a lock that could protect the name
 pub record IsLockNote (decls : List Decl) (at : ℕ) (note : Note) : Type 0 where
   pub name : Ident
   pub at_hand : IsAtHand decls at name
   pub said : note ≡ lock_note name
 
--- E12: the place of the declaration of the member that the annotation passes
+-- the note on the member that the annotation passes
 pub record IsPassedNote (decls : List Decl) (at : ℕ) (note : Note) : Type 0 where
   pub member : Member
   pub passed : passed_at decls at ≡ Some member
   pub said : note ≡ passed_note member
 
--- E15: the exceeded limit
+-- the words on a limit that is exceeded at this byte
 pub data IsLimitPassed (tokens : List Tok) (decls : List Decl) (at : ℕ) : List ℕ → Type 0 where
   of_count : {words : List ℕ} → IsCountPassed decls at words → IsLimitPassed tokens decls at words
   of_amount : {words : List ℕ} → IsAmountPassed decls at words → IsLimitPassed tokens decls at words
@@ -145,25 +148,25 @@ pub data IsLimitPassed (tokens : List Tok) (decls : List Decl) (at : ℕ) : List
   of_helpers : {words : List ℕ} → IsHelperLimit decls at words → IsLimitPassed tokens decls at words
   of_paths : ArePathsPast tokens at → IsLimitPassed tokens decls at path_words
 
--- E15: the words on the exceeded limit
+-- the note on the exceeded limit
 pub record IsLimitNote (tokens : List Tok) (decls : List Decl) (at : ℕ) (note : Note) : Type 0 where
   pub words : List ℕ
   pub passed : IsLimitPassed tokens decls at words
   pub said : note ≡ note_of_all words
 
--- E16: the missing `init`; or the final reference that is set to null
+-- the note on the missing `init`, or on the final reference that is set to null
 pub data IsFinalNote (decls : List Decl) (at : ℕ) : Note → Type 0 where
   gap : {p : Pool} {n : ℕ} {f : Final} → IsGap decls at p n f → IsFinalNote decls at (gap_note p n f)
   null : {f : Final} → IsNullGiven decls at f → IsFinalNote decls at (null_note f)
 
--- E17: the place of the first `init` of the same field
+-- the note on the first `init` of the same field
 pub record IsGivenNote (decls : List Decl) (at : ℕ) (note : Note) : Type 0 where
   pub first : Init
   pub given : IsGivenFirst decls at first
   pub said : note ≡ given_note first
 
--- E18: a section or a helper whose return is missing. Where none is missing there, it is the enclosing section or helper, if
--- that is without a result type, and otherwise that the return is misplaced
+-- the note on a section or a helper whose return is missing. If none is missing there, it is the note on the enclosing
+-- section or helper, if that does not have a result type, and otherwise the note on the misplaced return
 pub data IsReturnNote (decls : List Decl) (at : ℕ) : Note → Type 0 where
   missing : {x : Ident} → IsLacking decls at x → IsReturnNote decls at (missing_note x)
   typeless : {s : Section} → ((x : Ident) → IsLacking decls at x → ⊥) → IsIn decls at s → s.result ≡ None →

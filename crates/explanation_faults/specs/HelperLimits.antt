@@ -14,7 +14,7 @@ IsOfDepth (too_deep f is ends deep) = Unit {0}
 IsOfDepth (too_many_locals s before behind c is parts few many) = ⊥
 IsOfDepth (too_many_points s before behind c is parts few many) = ⊥
 
--- the words on a limit that is exceeded at this byte
+-- E15, for what helpers call and bring
 pub data IsHelperLimit (decls : List Decl) (at : ℕ) : List ℕ → Type 0 where
   depth : (o : IsOverLimit (tree_graph decls) at) → IsOfDepth o →
       IsHelperLimit decls at (codes "calls of helpers go at most 8 deep")

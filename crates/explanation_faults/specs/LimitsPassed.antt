@@ -59,7 +59,7 @@ pub record IsPast (at limit : ℕ) (names : List Ident) : Type 0 where
   pub many : limit ≤ length before
   pub starts : name.span.start ≡ at
 
--- the words on such a limit that is exceeded at this byte
+-- E15, for declarations, members and locals
 pub data IsCountPassed (decls : List Decl) (at : ℕ) : List ℕ → Type 0 where
   structs : IsPast at STRUCT_LIMIT (filter_map struct_name decls) →
       IsCountPassed decls at (codes "a program has at most 64 structs")
@@ -76,7 +76,8 @@ pub data IsCountPassed (decls : List Decl) (at : ℕ) : List ℕ → Type 0 wher
   locals : {s : Section} → Has decls (atomic s) → IsPast at LOCAL_LIMIT (local_names s) →
       IsCountPassed decls at (codes "a section has at most 64 locals, parameters included")
 
--- a field's annotation that begins at this byte goes over a final reference, and has reached the limit of these before it
+-- a field's annotation that begins at this byte goes over a final reference, and has reached the limit of these before
+-- it
 pub data AreFinalsPassed (decls : List Decl) : ℕ → Type 0 where
   finals_passed : {p : Protection} {st : AnnotationCursor} {y z : Ident} {zs : List Ident} {i : ℕ} {f : Final} →
       Walks decls p st y (z ∷ zs) → the_member st.members y.text ≡ Some (i, final_member f) → FINAL_LIMIT ≤ length st.through →

@@ -8,8 +8,8 @@ use Rattle.syntax.specs.Trees.{Const, null_const, Final, Member, final_member, P
 
 -- ---- a missing `init`
 
--- the value that is given to a struct member, in the pool member with this index; the struct member and the pool are given
--- by their places
+-- the value that is given to a struct member, in the pool member with this index; the struct member and the pool are
+-- given by their places
 abbrev pub value_given : List Decl → ℕ → ℕ → ℕ → Option Const
 value_given decls place member n = given decls (record { pool = place; index = n; member = member })
 
@@ -19,7 +19,8 @@ pub record IsFirstWithout (decls : List Decl) (place member count n : ℕ) : Typ
   pub missing : value_given decls place member n ≡ None
   pub before : (k : ℕ) → k < n → IsSome (value_given decls place member k)
 
--- f is a final reference of the struct with these members that is not given to all pool members, and n is the first of these
+-- f is a final reference of the struct with these members that is not given to all pool members, and n is the first of
+-- these
 pub record IsMissing (decls : List Decl) (place : ℕ) (members : List Member) (count n : ℕ) (f : Final) : Type 0 where
   pub member : ℕ
   pub named : the_member members f.name.text ≡ Some (member, final_member f)

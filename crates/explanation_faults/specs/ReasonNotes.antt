@@ -97,27 +97,29 @@ hint_words _ _ = []
 
 -- ---- reasons in words
 
--- wanted .., found ..
+-- E07, for an expression, a constant, the name of a helper in a `let`, and the names after a `where`
 abbrev pub unwanted_words : List Decl → Want → Kind → List ℕ
 unwanted_words decls w k = codes "expected " ++ want_words decls w ++ codes ", found " ++ kind_words decls k
 
--- what the left and the right side are
+-- E07, for the sides of `==` and `!=`
 abbrev pub side_words : List Decl → Kind → Kind → List ℕ
 side_words decls a b = (codes "the left side is " ++ kind_words decls a) ++ (codes ", the right side is " ++ kind_words decls b)
 
--- that a result is expected, and the helper has none
+-- E07, for the name of a helper in a `let`
 abbrev pub no_result_words : List Decl → ValueType → List ℕ
 no_result_words decls t = codes "expected " ++ type_words decls t ++ codes ", found no result"
 
--- what a name stands for and what is expected of it, with a hint where there is one
+-- E07 and E09, for a name of another kind, and for one that can't be assigned to (E09); in some cases `: ` and what to
+-- write follow
 abbrev pub misnamed_words : Role → Referent → List ℕ
 misnamed_words r s = codes "this is " ++ referent_words s ++ role_words r ++ hint_words r s
 
--- how many arguments are expected, and how many are given
+-- E08, for the arguments of a call
 abbrev pub count_words : ℕ → ℕ → List ℕ
 count_words n k = (codes "arguments expected: " ++ decimal n) ++ (codes ", given: " ++ decimal k)
 
--- the words of reasons that do not have parameters
+-- E07 and E09, for the names after a `where`, fields, operators between conditions, and an assignment to a final
+-- reference (E09)
 abbrev pub fixed_words : Why → List ℕ
 fixed_words why.OwnedInt = codes "expected a reference, found int"
 fixed_words why.OwnerField = codes "this field can change, and a final reference is expected"
@@ -143,7 +145,7 @@ reason_note decls w = note_of_all (reason_words decls w)
 
 -- ---- truth
 
--- E07, E08, E09: the reason of a fault of this code at this byte
+-- the note has the reason of a fault of this code at this byte
 pub record IsReasonNote (decls : List Decl) (code : Code) (at : ℕ) (note : Note) : Type 0 where
   pub why : Why
   pub is_so : IsFaultFor decls code at why

@@ -19,8 +19,7 @@ pub record HasTextTree (text : List ℕ) (tokens : List Tok) (decls : List Decl)
   pub has_tokens : HasTokens text tokens
   pub has_tree : HasTree tokens decls
 
--- the words on the text's own limit that is exceeded at this byte: the text is too long, which is its one fault; or a name
--- of it is
+-- E15, for a text that is too long, which is then its one fault, and for a name of it
 pub data IsTextLimit (text : List ℕ) : ℕ → List ℕ → Type 0 where
   source : SOURCE_LIMIT < length text → IsTextLimit text 0 (codes "a source has at most 1048576 bytes")
   a_name : {at : ℕ} (x : List ℕ) →
@@ -38,12 +37,12 @@ pub record IsMarkFault (text : List ℕ) (code : Code) (at : ℕ) : Type 0 where
   pub first : at ≡ 0
   pub marked : has_mark text ≡ true
 
--- the words on a byte order mark
+-- E01, for a byte order mark (EF BB BF, FE FF or FF FE) at the first byte
 abbrev pub mark_words : List ℕ
 mark_words = codes "the file begins with a byte order mark: save it as ASCII or UTF-8 without one"
 
--- the note is true for a fault of this code at this byte of the text; for a text that is too long it can only be the note
--- that says so
+-- the note is true for a fault of this code at this byte of the text; for a text that is too long it can only be the
+-- note that says so
 pub data IsTrueTextNote (text : List ℕ) (code : Code) (at : ℕ) (note : Note) : Type 0 where
   of_tree : {tokens : List Tok} {decls : List Decl} →
       length text ≤ SOURCE_LIMIT → HasTextTree text tokens decls → IsTrueNote tokens decls code at note → IsTrueTextNote text code at note

@@ -7,11 +7,11 @@ use Rattle.explanation_names.specs.TokensThere.{token_at, name_of, has_two_field
 use Rattle.explanation_names.specs.Vars.{all_of, IsIn, IsVar, IsAssigned}
 use Rattle.explanation_faults.specs.Words.{name_note}
 
--- the note that a name is a `var`, at its declaration
+-- E13, at the name of the `var`
 abbrev pub var_note : Ident → Note
 var_note x = name_note x (codes " is a var, declared here")
 
--- the same note, which says besides that a `let` would do
+-- E13, at the name of the `var`, if nothing assigns it and at most one field comes after it
 abbrev pub fixed_note : Ident → Note
 fixed_note x = name_note x (codes " is a var, declared here, and never assigned: a let would do")
 

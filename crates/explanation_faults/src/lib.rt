@@ -1,15 +1,14 @@
 //! Notes on faults of names, types, counts, annotations, bases, limits, `init`s and returns, and further faults.
 //!
 //! - [`fault_told`]: the notes on a fault, and the further faults: [`FaultTold`]. `specs/TextNotes.antt` and
-//!   `specs/FaultNotes.antt` say which notes are true, and where there must be one; `specs/FurtherFaults.antt`, which
+//!   `specs/FaultNotes.antt` say which notes are true, and which faults must have one. `specs/FurtherFaults.antt` says which
 //!   further faults there are.
 //! - `specs/ReasonNotes.antt`: why a fault is one, in words. `specs/LocksAtHand.antt`: a lock for what does not have one.
 //!   `specs/MissingInits.antt`: the missing `init`. `specs/VarNotes.antt`: the note on the `var` that a name is.
 //!   `specs/LimitsPassed.antt`, `AmountsPassed.antt`, `HelperLimits.antt` and `PathsPassed.antt`: the exceeded limit.
 //!   `specs/Inits.antt`: the first `init` of a field. The findings on names are defined in `explanation_names`.
-//! - What the code finds where there are several candidates is defined in `specs/Working/LimitsFound.antt`,
-//!   `AmountsFound.antt`, `HelpersFound.antt`, `LocksFound.antt`, `NullsFound.antt` and `VarsFound.antt`; `proofs/` connects
-//!   it to these.
+//! - `specs/Working/LimitsFound.antt`, `AmountsFound.antt`, `HelpersFound.antt`, `LocksFound.antt`, `NullsFound.antt` and
+//!   `VarsFound.antt` define which of several candidates the code finds. `proofs/` connects this to the definitions above.
 #![tactic(auto)]
 
 mod amounts_passed;

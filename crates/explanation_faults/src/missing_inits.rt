@@ -56,7 +56,8 @@ fn due_final<'t>(structure: &Structure<'t>, place: usize, member: &'t Member) ->
     }
 }
 
-/// The first final reference that is not set in all members of the pool at `pool`, with the index of the first such member.
+/// The first final reference that is not set in all members of the pool at `pool`, with the index of the first such
+/// member.
 fn missing_final<'t>(
     symbols: &SymbolTable<'t>,
     structure: &Structure<'t>,
@@ -76,7 +77,8 @@ fn missing_final<'t>(
     None
 }
 
-/// The first final reference that is not set in all members of the pool at `place`, if the pool's name starts at byte `at`.
+/// The first final reference that is not set in all members of the pool at `place`, if the pool's name starts at byte
+/// `at`.
 fn gap_of<'t>(
     symbols: &SymbolTable<'t>,
     place: usize,
@@ -92,8 +94,8 @@ fn gap_of<'t>(
     missing_final(symbols, structure, place, pool.length.value)
 }
 
-/// The first final reference that is not set in all members of a pool, for the first such pool whose name starts at byte
-/// `at`.
+/// The first final reference that is not set in all members of a pool, for the first such pool whose name starts at
+/// byte `at`.
 pub fn gap_at<'t>(symbols: &SymbolTable<'t>, at: usize) -> Option<MissingInit<'t>>
     ensures { FoundGap (decls_of symbols.now) at result }
 {

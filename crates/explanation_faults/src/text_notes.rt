@@ -198,17 +198,18 @@ fn other_told(alloc: Global, text: &[u8], fault: &Fault) -> Result<FaultTold, No
     Ok(FaultTold { notes, further })
 }
 
-/// The notes on `fault`, and the further faults. The notes report: what is advised on an unexpected token, and all that
-/// could come in its place; that the text begins with a byte order mark; where a name is declared first; which declared
-/// name could be meant by an unknown one; why it has the wrong type or count, or can't be assigned to; a lock that could
-/// protect it; which member an annotation passes; which `var` a name is; which limit is exceeded; which `init` is
-/// missing or the first; which `return` is missing. Only an unexpected token, a byte order mark and a fault of names,
-/// types, counts, annotations, bases, limits, `init`s or returns has such notes. Where `fault` is the first fault of
-/// names and types, the further faults are those after it, at most nineteen, and whether there are more.
+/// The notes on `fault`, and the further faults. Only these faults have notes. An unexpected token has the advice on
+/// it, and all tokens that could come in its place. A byte order mark is named. A fault of a name has the place where
+/// the name is declared first, or the declared name that could be meant by an unknown one. A wrong type or count, and a
+/// name that can't be assigned to, have the reason. A name without an annotation has a lock that could protect it. A
+/// fault of an annotation has the member that the annotation passes, and one of a base the `var` that the name is. The
+/// others name the limit that is exceeded, the `init` that is missing or the first, or the `return` that is missing. If
+/// `fault` is the first fault of names and types, the further faults are those after it, at most nineteen, and whether
+/// there are more.
 ///
 /// Each note is true. `E06` has a note if a name is near, or `null` is near and could stand there. `E07` has one if
-/// something isn't what is expected or both sides are unlike, `E10` if a lock could protect the name, `E13` if the `var`
-/// is found, and `E15` on helpers or lock paths if that is the first fault of its kind.
+/// something isn't what is expected or both sides are unlike, `E10` if a lock could protect the name, `E13` if the
+/// `var` is found, and `E15` on helpers or lock paths if that is the first fault of its kind.
 ///
 /// # Errors
 ///

@@ -49,7 +49,8 @@ fn is_body(decl: &Decl) -> bool
     matches!(decl, Decl::Atomic(_) | Decl::Helper(_))
 }
 
-/// The note `NAME is a var` for the `var` of this name among statements, which says whether a `let` would do in its place.
+/// The note `NAME is a var` for the `var` of this name among statements, which says whether a `let` would do in its
+/// place.
 fn note_of_var(
     alloc: Global,
     is_long: bool,
@@ -77,8 +78,8 @@ fn is_typeless(section: &Section) -> bool
     section.result.is_none()
 }
 
-/// The note that the section or helper at `at` is without a result type, or that the `return` is misplaced, where none is
-/// missing.
+/// The note that the section or helper at `at` is without a result type, or that the `return` is misplaced, where none
+/// is missing.
 fn note_of_misplaced(alloc: Global, decls: &[Decl], at: usize) -> Result<Note, NoMemory>
     requires { LacksNone (map decl_of decls.now) at }
     ensures { IfOk result (λ note. IsReturnNote (map decl_of decls.now) at (note_of note)) }

@@ -24,7 +24,7 @@ use Rattle.explanation_names.specs.Working.Values.{option_list, typed_seen}
 pub nothing_added : (p : FoundNames) → Adds p p []
 nothing_added p = record { unrefused = λ ok. ok; names = λ ok. sym (append-nil (idents p.names.items)) }
 
--- some, and others after them
+-- some names, and others after them
 pub followed_by : {p q r : FoundNames} {x y : List Ident} → Adds p q x → Adds q r y → Adds p r (x ++ y)
 followed_by {p = p} {x = x} {y = y} a b = record {
   unrefused = λ ok. a.unrefused (b.unrefused ok);
@@ -34,7 +34,7 @@ followed_by {p = p} {x = x} {y = y} a b = record {
 pub spelled : {p q : FoundNames} {x y : List Ident} → x ≡ y → Adds p q x → Adds p q y
 spelled {p = p} {q = q} e a = subst (Adds p q) e a
 
--- In a loop: what was found since it began, and the rest after it, are the whole.
+-- The invariant of a loop: the names found since it began, and those in the rest, are the whole.
 pub record Leads (first here : FoundNames) (rest whole : List Ident) : Type 0 where
   pub unrefused : here.is_refused ≡ false → first.is_refused ≡ false
   pub names : here.is_refused ≡ false → idents here.names.items ++ rest ≡ idents first.names.items ++ whole
@@ -70,7 +70,7 @@ pub item_added : {B : Type 0} {p q r : FoundNames} {piece whole : List Ident} (r
     → Leads p q (rest (drop i xs)) whole → Adds q r piece → Leads p r (rest (drop (i + 1) xs)) whole
 item_added rest xs i x below is begins l a = item_then rest rest xs i x below is begins l a
 
--- and at its end
+-- the end of such a loop
 pub all_added : {B : Type 0} {p q : FoundNames} {whole : List Ident} (rest : List B → List Ident) (xs : List B) (i : ℕ)
     → length xs ≤ i → rest [] ≡ [] → Leads p q (rest (drop i xs)) whole → Adds p q whole
 all_added {p = p} {q = q} {whole = whole} rest xs i above none l =
@@ -78,7 +78,7 @@ all_added {p = p} {q = q} {whole = whole} rest xs i above none l =
 
 -- ---- one name
 
--- after a failed allocation nothing is tried
+-- after a failed allocation no further name is added
 pub refused_before : (p : FoundNames) (names : List Ident) → p.is_refused ≡ true → Adds p p names
 refused_before p names refused = record { unrefused = λ ok. ok; names = λ ok. absurd cc }
 
@@ -91,12 +91,12 @@ tried {p = p} {q = q} name fresh well e = record {
       ap idents pushed ∙ map-append ident_at p.names.items (name ∷ []);
 }
 
--- what there is of an option, ahead of others
+-- a list with the item of an option in front
 pub some_ahead : {A : Type 0} (o : Option A) (rest : List A) → cons_option o rest ≡ option_list o ++ rest
 some_ahead (Some x) rest = refl
 some_ahead None rest = refl
 
--- what a function gives of a list's items: one item further, and the end
+-- a function that finds at most one name in each item: one item further, and the end
 pub name_added : {A B : Type 0} {p q r : FoundNames} {whole : List Ident} (f : A → Option Ident) (view : B →
     A) (xs : List B) (i : ℕ) (x : B) (o : Option Ident)
     → i < length xs → x ≡ get_or xs i x → o ≡ f (view x) → Leads p q (filter_map f (map view (drop i xs))) whole → Adds q r (option_list o)
@@ -110,7 +110,7 @@ pub all_named : {A B : Type 0} {p q : FoundNames} {whole : List Ident} (f : A �
     → length xs ≤ i → Leads p q (filter_map f (map view (drop i xs))) whole → Adds p q whole
 all_named f view xs i above = all_added (λ ys. filter_map f (map view ys)) xs i above refl
 
--- the whole of what was added to none
+-- names that are added to none are the whole
 pub all_there : {p q : FoundNames} {names : List Ident} → p.names.items ≡ [] → Adds p q names → q.is_refused ≡ false →
     idents q.names.items ≡ names
 all_there {names = names} none a ok = a.names ok ∙ ap (λ (xs : List (Bor Name)). idents xs ++ names) none
@@ -129,7 +129,7 @@ said_as {s = s} {p = p} {q = q} e a = subst (Says s p q) e a
 pub one_use : (s : NameSearch) {p q : FoundNames} (u : Use) → Adds p q (meant_by (decls_at s) s.at u) → Says s p q (u ∷ [])
 one_use s u a = record { found = spelled (sym (append-nil (meant_by (decls_at s) s.at u))) a }
 
--- in a loop: what is meant by the uses so far, and by those in the rest
+-- the invariant of a loop: the names meant by the uses so far, and by those in the rest, are the whole
 pub record Tells (s : NameSearch) (first here : FoundNames) (rest whole : List Use) : Type 0 where
   pub leads : Leads first here (meant_for s rest) (meant_for s whole)
 
@@ -212,7 +212,8 @@ module _ (s : NameSearch) {q r t u : FoundNames} {b d : Vec the_local.LocalInSco
       ∙ sym (at_drop_more (λ l. xs ++ all_declared (stmts_of l)) ss i x below)
       ∙ so_far (own.found.unrefused (inner.found.unrefused (binds.adds.unrefused ok)))
 
--- in a loop over parameters: those in scope so far and the rest are all, and no name is found
+-- the invariant of a loop over parameters: the locals in scope and the remaining parameters are all, and no name is
+-- found
 pub record Binding (a b : Vec the_local.LocalInScope Global) (first here : FoundNames) (rest whole : List LocalInScope) : Type 0 where
   pub leads : Leads first here [] []
   pub scope : here.is_refused ≡ false → typed_seen b.items ++ rest ≡ typed_seen a.items ++ whole

@@ -20,7 +20,7 @@ pub same_name : (names : List (Bor Name)) (k : ℕ) (n : Bor Name) (x : Ident) �
     slice_get (idents names) k ≡ Some x → ident_at n ≡ x
 same_name names k n x is lt at = same_Some (ident_at n) x (sym (named_at names k n is lt) ∙ at)
 
--- the first of those ahead of a place
+-- the first of the equal names before a place
 pub found_ahead : (names : List (Bor Name)) (j : ℕ) (q text : List ℕ) (o : Option ℕ) →
     o ≡ place_of ident_bears (idents (take j names)) q → q ≡ text →
     place_of ident_bears (take j (idents names)) text ≡ o

@@ -25,7 +25,7 @@ pub one_more : (old new : List (Bor Name)) (x : Bor Name) → new ≡ old ++ x �
     idents new ≡ idents old ++ ident_at x ∷ []
 one_more old new x e = ap idents e ∙ map-append ident_at old (x ∷ [])
 
--- a turn of a loop: after p those of the element stand, and what is left follows them
+-- one turn of a loop: the names of the element are appended after `p`, and those of the rest follow
 pub turn : {X : Type 0} (F : List X → List Ident) (xs : List X) (i : ℕ) (x y : X) (p q one start : List Ident) →
     i < length xs → x ≡ get_or xs i y →
     F (x ∷ drop (i + 1) xs) ≡ one ++ F (drop (i + 1) xs) → q ≡ p ++ one → p ++ F (drop i xs) ≡ start → q ++ F (drop (i + 1) xs) ≡ start
@@ -58,11 +58,11 @@ mutual
   else_listed no_else = refl
   else_listed (else_do body close) = names_listed body
 
-  -- they are those that its statements bind
+  -- the locals of a section are those that its statements bind
   pub names_listed : (ss : Stmts) → names_among ss ≡ filter_map bound_name (all_of ss)
   names_listed no_stmts = refl
   names_listed (stmt s rest) = joined (bound_names s) (names_among rest) (s ∷ within s) (all_of rest) (bound_listed s) (names_listed rest)
 
--- a choice binds none itself
+-- a choice itself binds no local
 pub none_bound : (s : the_stmt.Stmt) (b : Box the_if.If Global) → s ≡ If b → bound_name (stmt_of s) ≡ None
 none_bound s b e = ap (λ (s : the_stmt.Stmt). bound_name (stmt_of s)) e ∙ ap bound_name (if_of-out b.value)

@@ -18,16 +18,16 @@ apart [] ys h = inr h
 apart (y ∷ xs) ys first = inl first
 apart (y ∷ xs) ys (further h) = elim (apart xs ys h) [ inl a ↦ inl (further a) | inr b ↦ inr b ]
 
--- what follows from being in either
+-- a property of the elements of both lists
 pub either : {A : Type 0} {P : Type 0} (xs ys : List A) {x : A} → (Has xs x → P) → (Has ys x → P) → Has (xs ++ ys) x → P
 either xs ys f g h = elim (apart xs ys h) [ inl a ↦ f a | inr b ↦ g b ]
 
--- in a list of one
+-- the element of a list of one
 pub the_one : {A : Type 0} {x y : A} → Has (x ∷ []) y → x ≡ y
 the_one first = refl
 the_one (further h) = elim h [ ]
 
--- in what one of two gives
+-- the elements of a list that is taken under a condition
 pub where_so : {A : Type 0} (b : Bool) (xs : List A) {x : A} → b ≡ true → Has xs x → Has (if b then xs else []) x
 where_so true xs is h = h
 where_so false xs is h = absurd cc
@@ -37,7 +37,7 @@ pub so_where : {A : Type 0} {P : Type 0} (b : Bool) (xs : List A) {x : A} → (b
 so_where true xs f h = f refl h
 so_where false xs f h = elim h [ ]
 
--- in what a function gives of elements
+-- the elements that a function gives
 module _ {A B : Type 0} (f : A → Option B) {y : B} where
   at_front : (o : Option B) (rest : List B) → o ≡ Some y → Has (cons_option o rest) y
   at_front (Some z) rest is = let e : z ≡ y = cc in rw e first
@@ -62,12 +62,12 @@ module _ {A B : Type 0} (f : A → Option B) {y : B} where
   from_given [] up h = elim h [ ]
   from_given (x ∷ xs) up h = from_front (f x) (filter_map f xs) (up x first) (from_given xs (λ z has. up z (further has))) h
 
--- the front of what stands one after another
+-- the front of two lists appended
 pub front : {A : Type 0} (xs ys : List A) → take (length xs) (xs ++ ys) ≡ xs
 front [] ys = refl
 front (x ∷ xs) ys = ap (λ l. x ∷ l) (front xs ys)
 
--- in what stands one after another for each of a list, and in what a function makes of each
+-- the elements of lists appended, one for each element of another
 module _ {A B : Type 0} {y : B} where
   pub flat_in : (f : A → List B) (xs : List A) {x : A} → Has xs x → Has (f x) y → Has (flat_map f xs) y
   flat_in f [] has h = elim has [ ]

@@ -41,7 +41,7 @@ blocks_seen xs ys s b x y is here there same =
     ∙ ap (λ (z : the_if.If). uses_in_stmts xs (stmts_of (out-If x).block.stmts.items) ++ uses_in_else xs (else_of (out-If z).otherwise)) (there ∙ sym here)
     ∙ ap (uses_in_blocks xs) (if_seen s b x is here)
 
--- locals after others, taken off again
+-- locals that were appended are removed again
 pub taken_off : (old new : List the_local.LocalInScope) (n : ℕ) (more : List LocalInScope) → n ≡ length old →
     typed_seen new ≡ typed_seen old ++ more → typed_seen (take n new) ≡ typed_seen old
 taken_off old new n more count made =
@@ -53,7 +53,7 @@ taken_off old new n more count made =
 pub none_declared : (s : the_stmt.Stmt) (b : Box the_if.If Global) → s ≡ If b → declared_by (stmt_of s) ≡ []
 none_declared s b is = ap (λ (s : the_stmt.Stmt). declared_by (stmt_of s)) is ∙ ap declared_by (if_of-out b.value)
 
--- what is repeated
+-- the repeated item of a list
 pub repeat_seen : (xs : List LocalInScope) (x : the_item.Item) (n : Number) (items : Vec the_item.Item Global) (is : List the_item.Item) → x ≡ Repeat n items → is ≡ items.items →
     uses_of_items xs (items_of is) ≡ uses_of_item xs (item_of x)
 repeat_seen xs x n items is shape here =

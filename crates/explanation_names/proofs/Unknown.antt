@@ -29,7 +29,7 @@ has_at [] k is = absurd cc
 has_at {A = A} (y ∷ xs) zero {x = x} is = let e : y ≡ x = cc in subst (λ (z : A). Has (y ∷ xs) z) e first
 has_at (y ∷ xs) (suc k) is = further (has_at xs k is)
 
--- with some locals in scope
+-- the locals in scope somewhere, which have the property
 record Scoped (P : List LocalInScope → Type 0) : Type 0 where
   locals : List LocalInScope
   holds : P locals

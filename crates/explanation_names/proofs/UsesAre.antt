@@ -38,7 +38,7 @@ use Rattle.explanation_names.proofs.Lists as l
 
 -- ---- in expressions
 
--- the uses of a place itself
+-- the uses in a place itself
 abbrev own : List LocalInScope → Place → List Use
 own xs (lone x) = of_kind kind.Value xs x ∷ []
 own xs (element x e) = of_kind kind.Indexed xs x ∷ []
@@ -276,7 +276,7 @@ is_found decls (a_lock has) = lock_found decls has first
 is_found decls (a_guard has) = guard_found decls has first
 is_found decls (a_guard_way has) = guard_found decls has (further first)
 
--- ---- each that is found is one
+-- ---- each name that is found is in use
 
 module _ (decls : List Decl) where
   own_used : {xs : List LocalInScope} {u : Use} (p : Place) → HasPlace decls xs p → Has (own xs p) u → Uses decls u

@@ -15,12 +15,12 @@ use Rattle.syntax.specs.Views.{stmt_of, stmts_of, else_of}
 use Rattle.explanation_names.specs.Vars.{all_of, behind, within}
 use Rattle.explanation_names.specs.Working.VarsFound.{assigns, var_in}
 
--- those of a loop's body
+-- the statements of a loop's body
 pub within_while : (s : the_stmt.Stmt) (b : Box the_while.While Global) → s ≡ While b →
     within (stmt_of s) ≡ all_of (stmts_of b.value.block.stmts.items)
 within_while s b e = ap (λ (s : the_stmt.Stmt). within (stmt_of s)) e ∙ ap within (stmt_of-While b)
 
--- those of the blocks of a choice
+-- the statements of a choice's blocks
 pub within_if : (s : the_stmt.Stmt) (b : Box the_if.If Global) → s ≡ If b → within (stmt_of s)
     ≡ all_of (stmts_of (out-If b.value).block.stmts.items) ++ behind (else_of (out-If b.value).otherwise)
 within_if s b e = ap (λ (s : the_stmt.Stmt). within (stmt_of s)) e ∙ ap within (if_of-out b.value)

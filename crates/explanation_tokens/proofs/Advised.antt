@@ -15,7 +15,7 @@ use Rattle.explanation_tokens.specs.Told.{IsAdvice, IsAdvised}
 use Rattle.explanation_tokens.specs.Working.Trials.{IsPlace, before_in}
 use Rattle.explanation_tokens.proofs.Spots.{behind_place, place_behind, same_number}
 
--- without a place
+-- without a place, there is no advice
 pub none_advised : (ts : List Tok) (code : Code) (start : ℕ) →
     (AreInOrder ts start → code ≡ UnexpectedToken → (before : List Tok) → IsBehind ts start before → ⊥) → IsAdvised ts code start []
 none_advised ts code start none = record {

@@ -1,4 +1,4 @@
--- The tokens so far, and the first row that fits.
+-- The tokens seen so far, and the first row that fits.
 use Rattle.std.proofs.Common.{◌≡◌, ◌∙◌, ℕ, zero, suc, ◌+◌, ◌<◌, Bool, true, false, cond, List, [], ◌∷◌, length, take, get_or}
 use Rattle.std.proofs.Common.{Option, Some, None, ap, sym, arith}
 use Rattle.std.specs.List.{find}
@@ -23,11 +23,11 @@ behind_more tokens i d within =
     ∙ ap behind_all (map-append seen_token (take i tokens) (get_or tokens i d ∷ []))
     ∙ fold-append step at_first (seen (take i tokens)) (seen_token (get_or tokens i d) ∷ [])
 
--- those before a place
+-- the tokens before a place
 pub seen_front : (tokens : List Token) (n : ℕ) → seen (take n tokens) ≡ take n (seen tokens)
 seen_front tokens n = sym (take-map seen_token n tokens)
 
--- one row more, which fits, or not
+-- one row more, which fits or does not
 pub found_at : {X : Type 0} (p : X → Bool) (xs : List X) (i : ℕ) (d : X) → i < length xs → find p (take i xs) ≡ None →
     p (get_or xs i d) ≡ true → find p xs ≡ Some (get_or xs i d)
 found_at p [] i d within none is = absurd (omega arith)
@@ -46,7 +46,7 @@ none_more p xs i d within none is =
     ∙ ap (λ o. option_or o (find p (get_or xs i d ∷ []))) none
     ∙ ap (λ (b : Bool). cond b (Some (get_or xs i d)) None) is
 
--- what is noted of a view is what is advised there
+-- the note on a view is the advice at its place
 pub noted_is : (view : View) (ts : List Tok) (n : ℕ) → IsView view ts n → noted view ≡ advice_on ts n
 noted_is view ts n is =
     ap (λ (l : List Tok). noted_at l view.number view.area view.inner) is.tokens

@@ -13,7 +13,7 @@ use Rattle.explanation_tokens.specs.Working.Trials.{IsPlace, before_in}
 
 -- ---- the place is found
 
--- one token more that starts before
+-- one more token that starts before the place
 pub one_more_before : (tokens : List Token) (n start : ℕ) (t : Token) → n < length tokens → get_or tokens n t ≡ t →
     StartBefore (take n (seen tokens)) start →
     (seen_token t).span.start < start → StartBefore (take (n + 1) (seen tokens)) start
@@ -27,7 +27,7 @@ there_seen [] n t is = cc
 there_seen (x ∷ tokens) zero t is = let same : x ≡ t = cc in ap (λ (y : Token). Some (seen_token y)) same
 there_seen (x ∷ tokens) (suc n) t is = there_seen tokens n t is
 
--- ---- it is the only one
+-- ---- the place is unique
 
 -- if all tokens before a place start before it, one that does not is not among them
 not_before : (ts : List Tok) (n k start : ℕ) (t : Tok) → StartBefore (take n ts) start → slice_get ts k ≡ Some t →
@@ -66,7 +66,7 @@ only_place tokens start n t place all there starts at =
     spot_is place n start (same_number (seen tokens) place.number n start at.token t before all at.there there at.starts starts) at.same
     (at.behind.one ∙ ap (λ k. k + 1) at.same)
 
--- after one that starts later, or after the last, there is none
+-- after a token that starts later, or after the last one, there is no such place
 pub none_later : (tokens : List Token) (start n : ℕ) (t : Tok) (place : TokenPlace) →
     StartBefore (take n (seen tokens)) start → slice_get (seen tokens) n ≡ Some t →
     start < t.span.start → IsPlace tokens start place → ⊥
@@ -99,7 +99,7 @@ split_at [] n t is = cc
 split_at (x ∷ ts) zero t is = (ts, let same : x ≡ t = cc in ap (λ (y : Tok). y ∷ ts) same)
 split_at (x ∷ ts) (suc n) t is = let rest = split_at ts n t is in (rest.0, ap (λ (l : List Tok). x ∷ l) rest.1)
 
--- it is after those before it
+-- `before_in` gives the tokens before the place
 pub behind_place : (tokens : List Token) (start : ℕ) (place : TokenPlace) → IsPlace tokens start place →
     IsBehind (seen tokens) start (before_in place tokens)
 behind_place tokens start place at =

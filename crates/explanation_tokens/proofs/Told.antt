@@ -15,7 +15,7 @@ use Rattle.explanation_tokens.specs.Expected.{AreExpected, AreThose, no_more, it
 use Rattle.explanation_tokens.specs.Expected.{AreInOrder, AreTokenNotes, IsTokenTold, all_candidates}
 use Rattle.explanation_tokens.specs.Working.Trials.{notes_on}
 
--- ---- those of a list that are so
+-- ---- the candidates of a list that have the property
 
 those_push : {A : Type 0} (Is : A → Type 0) (x : A) {xs those : List A} → AreThose Is xs those → Is x →
     AreThose Is (xs ++ x ∷ []) (those ++ x ∷ [])
@@ -117,7 +117,7 @@ true_notes ts code start [] is are k d within = absurd (omega arith)
 true_notes ts code start (first ∷ others) is are zero d within = record { unexpected = is; first = first; others = others; expected = are; said = refl }
 true_notes ts code start (first ∷ others) is are (suc k) d within = absurd (omega arith)
 
--- if no note has to be given, none is
+-- if no note is required, none is given
 pub none_expected : (ts : List Tok) (code : Code) (start : ℕ) → (AreInOrder ts start → IsTokenTold ts code start → ⊥) →
     AreTokenNotes ts code start []
 none_expected ts code start none = record {

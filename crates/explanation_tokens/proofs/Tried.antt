@@ -16,7 +16,7 @@ use Rattle.explanation_tokens.specs.Working.Trials.{AreBefore, says_it_can}
 starts_later : (t : Tok) (ts : List Tok) (start : ℕ) → StartBefore (t ∷ ts) start → StartBefore ts start
 starts_later t ts start all k d within = all (suc k) d (omega arith)
 
--- the token that starts one further is the last
+-- the token that starts at `start + 1` is the last
 all_before : (before other : List Tok) (tried last t : Tok) (after : List Tok) (start : ℕ) →
     before ++ tried ∷ last ∷ [] ≡ other ++ t ∷ after →
     StartBefore before start → tried.span.start ≡ start → t.span.start ≡ start + 1 → other ≡ before ++ tried ∷ []
@@ -35,7 +35,7 @@ all_before (b ∷ bs) (x ∷ xs) tried last t after start parts first at later =
     let rest : bs ++ tried ∷ last ∷ [] ≡ xs ++ t ∷ after = cc in
     ap (λ (y : Tok). y ∷ xs) (sym same) ∙ ap (λ (ys : List Tok). b ∷ ys) (all_before bs xs tried last t after start rest (starts_later b bs start first) at later)
 
--- a token that is not the last is among those ahead of it
+-- a token other than the last one is among the tokens before the last
 inside : (xs other : List Tok) (last t : Tok) (after : List Tok) → xs ++ last ∷ [] ≡ other ++ t ∷ after →
     (t ≡ last → ⊥) →
     (mid : List Tok) × (xs ≡ other ++ t ∷ mid)
@@ -49,7 +49,7 @@ inside (x ∷ xs) (o ∷ os) last t after parts differs =
     let found = inside xs os last t after rest differs in
     (found.0, ap (λ (y : Tok). y ∷ xs) same ∙ ap (λ (ys : List Tok). o ∷ ys) found.1)
 
--- those ahead of the last, of tokens that end in the one that is tried and it
+-- the tokens before the last one, of tokens that end in the tried one and the last one
 ahead : (before other : List Tok) (tried last t : Tok) (after : List Tok) →
     before ++ tried ∷ last ∷ [] ≡ other ++ t ∷ after → (t ≡ last → ⊥) →
     (mid : List Tok) × (before ++ tried ∷ [] ≡ other ++ t ∷ mid)
@@ -64,7 +64,7 @@ has_end : (xs : List Tok) (last : Tok) → last.kind ≡ end → NoEnd (xs ++ la
 has_end [] last is none = none.0 is
 has_end (x ∷ xs) last is none = has_end xs last is none.1
 
--- ---- it can come
+-- ---- the tried token can come
 
 -- if the token after the tried one is the first unexpected token, the tried one can come
 comes_if_unexpected : (before : List Tok) (last : Tok) (start : ℕ) (candidate : Candidate) → StartBefore before start →
@@ -80,7 +80,7 @@ comes_if_unexpected before last start candidate first fault =
       shallow = subst IsShallow all fault.shallow;
     }
 
--- or where they have a tree with the end
+-- or if the tokens before have a tree with the tried one and the end
 pub comes_if_tree : (before : List Tok) (last : Tok) (start : ℕ) (candidate : Candidate) (decls : List Decl) →
     HasTree (before ++ token_at candidate start ∷ last ∷ []) decls → CanCome before start candidate
 comes_if_tree before last start candidate decls tree =
@@ -92,9 +92,9 @@ comes_if_tree before last start candidate decls tree =
       shallow = shallow_ahead (before ++ tried ∷ []) (last ∷ []) (subst IsShallow (sym (append_assoc before (tried ∷ []) (last ∷ []))) tree.1);
     }
 
--- ---- it can't
+-- ---- the tried token can't come
 
--- with the one at fault no program begins, and it is not the last
+-- if the tokens with the tried one are at fault elsewhere than at the last token, the tried one can't come
 none_if_unexpected : (before : List Tok) (last : Tok) (start at : ℕ) (candidate : Candidate) →
     last.span.start ≡ start + 1 → (at ≡ start + 1 → ⊥) →
     IsUnexpected (before ++ token_at candidate start ∷ last ∷ []) at → CanCome before start candidate → ⊥
@@ -108,7 +108,7 @@ none_if_unexpected before last start at candidate is_last differs fault can =
     (sym (append_assoc before (tried ∷ []) can.others) ∙ ap (λ (l : List Tok). l ++ can.others) found.1 ∙ append_assoc fault.before (fault.token ∷ mid) can.others)
     can.begins)
 
--- so that the one after it is at fault
+-- if the tried token can come, the token at fault is the one after it
 unexpected_says : (b : Bool) (before : List Tok) (last : Tok) (start at : ℕ) (candidate : Candidate) →
     (at == start + 1) ≡ b → last.span.start ≡ start + 1 →
     IsUnexpected (before ++ token_at candidate start ∷ last ∷ []) at → CanCome before start candidate → (at == start + 1) ≡ true
@@ -116,7 +116,7 @@ unexpected_says true before last start at candidate is is_last fault can = is
 unexpected_says false before last start at candidate is is_last fault can =
     absurd (none_if_unexpected before last start at candidate is_last (eqb-false at (start + 1) is) fault can)
 
--- or an opening sign is too deep
+-- if the tokens with the tried one are nested too deep, the tried one can't come
 none_if_deep : (before : List Tok) (last : Tok) (start at : ℕ) (candidate : Candidate) → last.kind ≡ end →
     IsTooDeep (before ++ token_at candidate start ∷ last ∷ []) at → CanCome before start candidate → ⊥
 none_if_deep before last start at candidate is_end fault can =
@@ -128,7 +128,7 @@ none_if_deep before last start at candidate is_end fault can =
 
 -- ---- the result of a parse
 
--- those before, the one that is tried, the end
+-- the tokens before, the tried one, and the end
 abbrev pub Parts : List Tok → List Tok → Candidate → ℕ → Tok → Type 0
 Parts ts before candidate start last = (ts ≡ before ++ token_at candidate start ∷ last ∷ []) × (last.kind ≡ end) × (last.span.start ≡ start + 1)
 

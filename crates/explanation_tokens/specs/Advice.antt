@@ -310,7 +310,8 @@ abbrev pub said_first : Advice → List ℕ
 said_first (advice.Meant w) = codes "`" ++ keyword_text w ++ codes "`"
 said_first _ = []
 
--- the advice in words
+-- E03, if a row of the table of advice fits: the words of the first such row, for a missing `;` at the token before,
+-- and for a sign that is not closed at this sign
 abbrev pub advice_words : List Tok → ℕ → Advice → List ℕ
 advice_words ts n told = said_first told ++ flat_map (filled ts n) (words told)
 

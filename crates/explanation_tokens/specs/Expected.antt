@@ -80,7 +80,8 @@ candidate_text (Mark s) = codes "`" ++ sign_text s ++ codes "`"
 abbrev pub candidate_texts : List Candidate → List ℕ
 candidate_texts others = flat_map (λ (candidate : Candidate). codes ", " ++ candidate_text candidate) others
 
--- expected W, W
+-- E03, after at most 4,096 tokens: all that can come there, `a name` and `a number` first, then keywords and signs in
+-- the order of LANGUAGE.md
 abbrev pub expected_words : Candidate → List Candidate → List ℕ
 expected_words first others = codes "expected " ++ candidate_text first ++ candidate_texts others
 

@@ -14,7 +14,7 @@ pub record IsAdvice (ts : List Tok) (code : Code) (start : ℕ) (note : Note) : 
   pub place : IsBehind ts start before
   pub first : advice_on ts (length before) ≡ Some note
 
--- for tokens in order the advice is one note if a row fits, and else none
+-- for tokens in order the advice is one note if a row fits, and otherwise none
 pub record IsAdvised (ts : List Tok) (code : Code) (start : ℕ) (advice : List Note) : Type 0 where
   pub are_advice : All (IsAdvice ts code start) advice
   pub told : AreInOrder ts start → code ≡ UnexpectedToken → (before : List Tok) → IsBehind ts start before →

@@ -1,4 +1,4 @@
--- The edges of a cycle one by one, and notes on them put together.
+-- The edges of a cycle one by one, and the notes on them put together.
 use Rattle.std.proofs.Common.{◌≡◌, ◌∙◌, ◌++◌, ℕ, zero, suc, List, [], ◌∷◌, drop, map, Some, ap, append_assoc}
 use Rattle.std.proofs.Common.{get_or}
 use Rattle.std.specs.Prelude.{slice_get}
@@ -11,7 +11,7 @@ use Rattle.lockorder.specs.Faults.{AllMakeFirst, IsCycleOf}
 use Rattle.explanations.specs.CycleNotes.{class_of_next, TellsEdge, TellsWayOut, TellEdges, AreCycleNotes}
 use Rattle.explanations.specs.Working.Tellers.{IsMade}
 
--- one more element behind two
+-- one more element after two
 pub map_behind : {A B : Type 0} (f : A → B) (old : List B) (between new : List A) (one two : B) (a : A) →
     map f between ≡ old ++ one ∷ two ∷ [] →
     new ≡ between ++ a ∷ [] → map f new ≡ old ++ one ∷ two ∷ f a ∷ []
@@ -33,7 +33,7 @@ module _ (program : Typed) (first : ℕ) where
   made_at (d ∷ f ∷ rest) zero e all at = let same : d ≡ e = same_Some d e at in rw (← same) all.0
   made_at (d ∷ f ∷ rest) (suc i) e all at = made_at (f ∷ rest) i e all.1 at
 
-  -- notes on an edge go ahead of those on the ones behind it
+  -- the notes on an edge come before those on the edges after it
   pub told_ahead : (edges : List Edge) (e : Edge) (rest : List Edge) (usage binding way : Note) (more : List Note) →
       edges ≡ e ∷ rest →
       TellsEdge program e (class_of_next first rest) usage binding → TellsWayOut program e way → TellEdges program first rest more →

@@ -1,4 +1,4 @@
--- A path that a point uses, or whose root it binds, is among those of the section.
+-- A path that a point uses, or whose root a point binds, is a path of the section.
 use Rattle.std.proofs.Common.{◌≡◌, ◌∙◌, ◌<◌, ◌≤◌, ℕ, true, List, length, Option, Some, None, refl, sym, ap, subst, map}
 use Rattle.std.proofs.Common.{get_or, arith, eqb-true, eq-eqb}
 use Rattle.std.specs.Prelude.{◌==◌, slice_get}

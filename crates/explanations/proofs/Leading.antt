@@ -18,7 +18,7 @@ or_true : (b : Bool) → (b || true) ≡ true
 or_true true = refl
 or_true false = refl
 
--- one element settles the answer
+-- an element that settles the answer
 pub any_at : {A B : Type 0} (f : A → B) (p : B → Bool) (xs : List A) (i : ℕ) (x : A) → slice_get xs i ≡ Some x →
     p (f x) ≡ true → list_any p (map f xs) ≡ true
 any_at f p [] i x there is = absurd cc
@@ -26,7 +26,7 @@ any_at f p (y ∷ ys) zero x there is =
     ap (λ (b : Bool). b || list_any p (map f ys)) (ap (λ a. p (f a)) (same_Some y x there) ∙ is)
 any_at f p (y ∷ ys) (suc i) x there is = ap (λ (b : Bool). p (f y) || b) (any_at f p ys i x there is) ∙ or_true (p (f y))
 
--- the first that passes, behind those that don't
+-- the first element that passes, after those that do not
 pub found_at : {A B : Type 0} (f : A → B) (p : B → Bool) (xs : List A) (i : ℕ) (x : A) → slice_get xs i ≡ Some x →
     find p (map f (take i xs)) ≡ None → p (f x) ≡ true → find p (map f xs) ≡ Some (f x)
 found_at f p [] i x there none is = absurd cc
@@ -40,7 +40,7 @@ found_at f p (y ∷ ys) (suc i) x there none is =
       | false ↦ λ h. found_at f p ys i x there h is
     ] none
 
--- one more that doesn't
+-- one more element that does not pass
 pub none_more : {A B : Type 0} (f : A → B) (p : B → Bool) (xs : List A) (i : ℕ) (x : A) → slice_get xs i ≡ Some x →
     find p (map f (take i xs)) ≡ None → p (f x) ≡ false → find p (map f (take (i + 1) xs)) ≡ None
 none_more f p xs i x there none is =
@@ -55,11 +55,11 @@ pub both_added : {A : Type 0} (first one two new between : List A) → between �
     new ≡ first ++ (one ++ two)
 both_added {A = A} first one two new between e g = g ∙ ap (λ (l : List A). l ++ two) e ∙ append_assoc first one two
 
--- ---- what a call leads to
+-- ---- the places to which a call leads
 
 module _ (program : Typed) (at : ℕ) (p : Point) (number : ℕ) (helper : Section) (calls : call_of p ≡ Some number)
     (there : slice_get program.shape.helpers.items number ≡ Some helper) where
-  -- what the helper's points do
+  -- a call leads to what the points of its helper do
   leads_by : (n : ℕ) → leads program (suc n) at p
       ≡ (starts_in (points helper) at || list_any (leads program n at) (points helper))
   leads_by n =

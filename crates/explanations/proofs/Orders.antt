@@ -8,7 +8,7 @@ use Rattle.lockorder.specs.declared.ranks.ClassPair.{ClassPair}
 use Rattle.explanations.specs.OrderNotes.{pair_note, TellPairs}
 use Rattle.explanations.specs.Working.Tellers.{AddsPair, AddsPairs}
 
--- one more element, ahead of those that come
+-- one more element, before the remaining ones
 pub map_one_more : {A B : Type 0} (f : A → B) (xs ys : List A) (a : A) (b : B) (rest : List B) → ys ≡ xs ++ a ∷ [] →
     f a ≡ b →
     map f ys ++ rest ≡ map f xs ++ b ∷ rest
@@ -17,14 +17,14 @@ map_one_more f xs ys a b rest e g =
     ∙ ap (λ h. map f xs ++ h ∷ rest) g
 
 module _ (program : Typed) where
-  -- the note that tells a pair goes ahead of those on its edge
+  -- the note on a pair comes before those on its edge
   pub pair_added : (pair : ClassPair) (old between new : List written.Note) (order : written.Note) (usage binding : Note) →
       between ≡ old ++ order ∷ [] → note_of order ≡ pair_note program pair → map note_of new ≡ map note_of between ++ usage ∷ binding ∷ [] →
       map note_of new ≡ map note_of old ++ pair_note program pair ∷ usage ∷ binding ∷ []
   pair_added pair old between new order usage binding e is added =
       added ∙ map_one_more note_of old between order (pair_note program pair) (usage ∷ binding ∷ []) e is
 
-  -- notes on pairs that are left make those on all
+  -- the notes on the remaining pairs complete the notes on all
   abbrev pub Completes : List ClassPair → List ClassPair → List Note → List Note → Type 0
   Completes pairs left old now =
       (more : List Note) → TellPairs program left more → (told : List Note) × (now ++ more ≡ old ++ told) × TellPairs program pairs told

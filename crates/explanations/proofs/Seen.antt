@@ -1,4 +1,4 @@
--- What stands in the values of the code.
+-- The tree of the code and the tree of the definitions.
 use Rattle.std.proofs.Common.{◌≡◌, ◌∙◌, Global, List, Vec, sym, ap}
 use Rattle.std.specs.Prelude.{Box}
 use Rattle.source.specs.declared.token.Number.{Number}
@@ -23,7 +23,7 @@ pub if_seen : (s : the_stmt.Stmt) (b : Box the_if.If Global) → s ≡ If b → 
     ≡ if_then (out-If b.value).start (expr_of (out-If b.value).condition) (stmts_of (out-If b.value).block.stmts.items) (out-If b.value).block.close (else_of (out-If b.value).otherwise)
 if_seen s b is = ap stmt_of is ∙ if_of-out b.value
 
--- the same of one seen through what holds it; and of a chain and a repetition
+-- the same for the parts of a choice, and for a chain and a repetition
 pub if_parts : (s : the_stmt.Stmt) (b : Box the_if.If Global) (x : the_if.If) → s ≡ If b → x ≡ b.value →
     if_then (out-If x).start (expr_of (out-If x).condition) (stmts_of (out-If x).block.stmts.items) (out-If x).block.close (else_of (out-If x).otherwise) ≡ stmt_of s
 if_parts s b x is here = sym (if_of-out x) ∙ ap if_of here ∙ sym (ap stmt_of is)

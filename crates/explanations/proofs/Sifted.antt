@@ -66,7 +66,7 @@ module _ (decls : List Decl) (class : ℕ) where
   by_decl i (helper x) there h = elim h [ ]
   by_decl i (thread x) there h = elim h [ ]
 
-  -- from a place on
+  -- a declaration from the `i`th on has an annotation that ends at the class
   record Ended (i : ℕ) (ds : List Decl) : Type 0 where
     at : ℕ
     decl : Decl

@@ -1,5 +1,5 @@
--- The notes on a cycle of lock classes: for each edge where a lock of its class is used, where the root of a path of the
--- next class is bound, and whether this binding itself uses a lock of the edge's class.
+-- The notes on a cycle of lock classes: for each edge where a lock of its class is used, where the root of a path of
+-- the next class is bound, and whether this binding itself uses a lock of the edge's class.
 use Rattle.std.specs.Prelude.{◌≡◌, ◌<◌, ◌≤◌, ℕ, List, [], ◌∷◌, ◌++◌, slice_get, Some, None, codes, string_bytes}
 use Rattle.core_lang.specs.declared.tree.Section.{Section}
 use Rattle.core_lang.specs.declared.typed.Typed.{Typed}
@@ -36,8 +36,8 @@ pub record TellsUse (program : Typed) (section : Section) (p class : ℕ) (note 
   pub stands : StandsAt section p note
   pub words : note.words ≡ said program section path used_words
 
--- the root of a path of the class, which some point uses, is bound at the section's point with this number, and the note
--- says so
+-- the root of a path of the class, which some point uses, is bound at the section's point with this number, and the
+-- note says so
 pub record TellsBinding (program : Typed) (section : Section) (p class : ℕ) (note : Note) : Type 0 where
   pub path : LockPath
   pub user : ℕ
@@ -78,8 +78,8 @@ within_words program class =
 abbrev pub on_no_place : List ℕ → Note
 on_no_place words = record { start = None; words = words }
 
--- the note says whether the section's point with the number p, which binds, uses a lock of the class, and otherwise whether
--- it stands before the use at the point with the number u, each with a way to avoid the edge
+-- the note says whether the section's point with the number p, which binds, uses a lock of the class, and otherwise
+-- whether it stands before the use at the point with the number u, each with a way to avoid the edge
 pub data TellsWay (program : Typed) (section : Section) (u p class : ℕ) (note : Note) : Type 0 where
   apart : (UsesClass program section p class → ⊥) → u ≤ p → note ≡ on_no_place (apart_words program class) →
       TellsWay program section u p class note
@@ -96,13 +96,13 @@ pub record TellsWayOut (program : Typed) (e : Edge) (way : Note) : Type 0 where
 
 -- ---- cycles
 
--- the class of the next edge, or this one where there is no next edge
+-- the class of the next edge, or `first` after the last edge
 abbrev pub class_of_next : ℕ → List Edge → ℕ
 class_of_next first [] = first
 class_of_next first (e ∷ rest) = e.class
 
--- the notes on each edge: its use, its binding, and a way to avoid it; an edge leads to the class of the next one, the last
--- edge to `first`
+-- the notes on each edge: its use, its binding, and a way to avoid it; an edge leads to the class of the next one, the
+-- last edge to `first`
 abbrev pub TellEdges : Typed → ℕ → List Edge → List Note → Type 0
 TellEdges program first [] [] = Unit {0}
 TellEdges program first (e ∷ rest) (usage ∷ binding ∷ way ∷ notes) =

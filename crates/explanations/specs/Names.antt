@@ -1,5 +1,6 @@
--- The names that a program reads, assigns and calls, and the names of its cells, each as often as it stands in the text. In
--- an accepted program the names of a section's parameters and locals differ from each other and from those of the top level.
+-- The names that a program reads, assigns and calls, and the names of its cells, each as often as it stands in the
+-- text. In an accepted program the names of a section's parameters and locals differ from each other and from those of
+-- the top level.
 use Rattle.std.specs.List.{flat_map}
 use Rattle.std.specs.Prelude.{Bool, true, false, List, [], ◌∷◌, ◌++◌, if◌then◌else◌}
 use Rattle.syntax.specs.Trees.{Ident, Place, lone, element, path, Expr, int, null, place, paren, prefix, chain}

@@ -1,6 +1,6 @@
 -- The notes on the order of a program's lock classes: the class of each rank; and for each pair of classes of which the
--- first has to come before the second a note that says so, where a lock of the first is used, and where the root of a path
--- of the second is bound.
+-- first has to come before the second a note that says so, where a lock of the first is used, and where the root of a
+-- path of the second is bound.
 use Rattle.std.specs.Prelude.{◌≡◌, ℕ, List, [], ◌∷◌, ◌++◌, length, map, None, codes}
 use Rattle.std.specs.Fmt.{decimal}
 use Rattle.std.specs.List.{range_with_len}

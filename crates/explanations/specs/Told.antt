@@ -51,8 +51,8 @@ pub record IsCycleExplained (text : List ℕ) (fault : Fault) (notes : List Note
   pub tell : AreCycleNotes program edges of_edges
   pub whole : notes ≡ of_edges ++ cycle_calls accepted program edges
 
--- the text is accepted: notes on the order of the lock classes of its expanded program, with what makes each pair of them,
--- and the warnings on its tree
+-- the text is accepted: notes on the order of the lock classes of its expanded program, with what makes each pair of
+-- them, and the warnings on its tree
 pub record IsFaultless (text : List ℕ) (notes : List Note) (warnings : List Warning) : Type 0 where
   pub program : Typed
   pub accepts : Accepts text program

@@ -17,7 +17,7 @@ use Rattle.explanations.specs.Names.{cell_names}
 
 -- ---- the subjects of warnings
 
--- a lock, with its class; a local, with the body that it is in; a helper; a section; a loop
+-- what a warning is about: a lock with its class, a local with the body that it is in, a helper, a section, or a loop
 pub data Subject : Type 0 where
   a_lock : (class : ℕ) → Ident → Subject
   a_local : (body : Stmts) → Ident → Subject
@@ -78,8 +78,9 @@ pub record HasThread (decls : List Decl) : Type 0 where
   pub a_thread : Thread
   pub listed : Has decls (thread a_thread)
 
--- a lock at which no annotation ends; a local that its body doesn't read; a helper that nothing calls; a section that no
--- thread calls, where there are threads; a loop whose body does not write a name of its condition
+-- a subject with a warning: a lock at which no annotation ends, a local that its body doesn't read, a helper that
+-- nothing calls, a section that no thread calls in a program with threads, or a loop whose body does not write a name
+-- of its condition
 abbrev pub IsWarned : List Decl → Subject → Type 0
 IsWarned decls (a_lock class x) = IsProtecting decls class → ⊥
 IsWarned decls (a_local body x) = IsNamed (read_among body) x → ⊥

@@ -67,8 +67,8 @@ pub struct Calls<'a> {
 }
 
 impl Calls<'_> {
-    /// Whether `point` calls a helper that has a point starting at `at`, or a point that leads to such a helper, at most
-    /// `depth` calls deep.
+    /// Whether `point` calls a helper that has a point starting at `at`, or a point that leads to such a helper, at
+    /// most `depth` calls deep.
     fn leads(
         &self,
         alloc: Global,
@@ -209,7 +209,8 @@ impl Calls<'_> {
         }
     }
 
-    /// Appends the notes on the calls that lead to the use and to the binding of an edge of the expanded program `written`.
+    /// Appends the notes on the calls that lead to the use and to the binding of an edge of the expanded program
+    /// `written`.
     fn push_edge(
         &self,
         alloc: Global,
@@ -228,8 +229,8 @@ impl Calls<'_> {
         self.push_to(alloc, edge.section, told, bound, notes)
     }
 
-    /// Appends notes on the calls of helpers that lead from sections to the places of a cycle's edges, where these are in a
-    /// helper: for each edge the note on its use, then the note on its binding.
+    /// Appends notes on the calls of helpers that lead from sections to the places of a cycle's edges, where these are
+    /// in a helper: for each edge the note on its use, then the note on its binding.
     ///
     /// # Errors
     ///

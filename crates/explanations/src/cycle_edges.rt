@@ -89,9 +89,9 @@ impl Edges<'_, '_> {
     }
 }
 
-/// The notes on a cycle of a program. For each edge they say where a lock of its class is used, and where the root of a path
-/// of the next class is bound, each with the section, the path and the class; and whether this binding itself uses a lock of
-/// the edge's class, with a way to avoid the edge.
+/// The notes on a cycle of a program. For each edge they say where a lock of its class is used, and where the root of a
+/// path of the next class is bound, each with the section, the path and the class; and whether this binding itself uses
+/// a lock of the edge's class, with a way to avoid the edge.
 ///
 /// # Errors
 ///

@@ -90,8 +90,9 @@ impl Edges<'_, '_> {
     }
 }
 
-/// The notes on the order of a program's lock classes: the class of each rank; then, for each pair of classes of which the
-/// first has to come before the second, a note that says so, and the notes on the use and on the binding of its edge.
+/// The notes on the order of a program's lock classes: the class of each rank; then, for each pair of classes of which
+/// the first has to come before the second, a note that says so, and the notes on the use and on the binding of its
+/// edge.
 ///
 /// # Errors
 ///

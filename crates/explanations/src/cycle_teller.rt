@@ -137,8 +137,8 @@ impl CycleWriter<'_> {
         Ok(said)
     }
 
-    /// The note that says whether the binding with the number `point` uses a path of the class, and otherwise whether it
-    /// stands before the point `used`; with a way to avoid the edge.
+    /// The note that says whether the binding with the number `point` uses a path of the class, and otherwise whether
+    /// it stands before the point `used`; with a way to avoid the edge.
     pub fn way_note(
         &self,
         alloc: Global,

@@ -41,8 +41,8 @@ fn push_element<'a>(
     push_expr(&element.index, with_fields, out)
 }
 
-/// Appends the names in `e`, as they stand in the text, with the names of fields where `with_fields` is true. The one error
-/// is a refused growth, here and below.
+/// Appends the names in `e`, as they stand in the text, with the names of fields where `with_fields` is true. The one
+/// error is a refused growth, here and below.
 #[cycle(exprs)]
 pub fn push_expr<'a>(
     e: &'a Expr,

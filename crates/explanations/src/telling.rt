@@ -85,8 +85,8 @@ fn told_of_order(alloc: Global, text: &[u8], ordered: &Ordered) -> Result<Diagno
     Ok(Diagnosis::Accepted { notes, warnings })
 }
 
-/// The report on `text`: the fault of the first pass that has any, with notes and further faults; or, for an accepted text,
-/// the order of the locks of its program and its warnings.
+/// The report on `text`: the fault of the first pass that has any, with notes and further faults; or, for an accepted
+/// text, the order of the locks of its program and its warnings.
 ///
 /// # Errors
 ///

@@ -36,8 +36,8 @@ impl Program<'_> {
         Ok(())
     }
 
-    // Appends the warnings on the locks among the members of the struct at `place`; the first lock has the number 0 in the
-    // struct.
+    // Appends the warnings on the locks among the members of the struct at `place`; the first lock has the number 0 in
+    // the struct.
     fn push_own_locks(
         &self,
         place: usize,

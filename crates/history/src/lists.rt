@@ -44,8 +44,8 @@ pub struct Packed {
     pub prints: Part,
 }
 
-/// The lists of entries, those of one kind one after another in one array, and the room that was made in them. Room that
-/// a section left unused serves the next one.
+/// The lists of entries, those of one kind one after another in one array, and the room that was made in them. Room
+/// that a section left unused serves the next one.
 #[derive(Drop)]
 pub struct Lists {
     arguments: Vec<Value>,

@@ -53,13 +53,13 @@ values_more rest place is less right = sym (ap (list_all is_next_value) (split_m
 
 -- ---- arguments
 
--- one alone
+-- a single argument
 pub argument_alone : (text : List ℕ) (place : ℕ) → (length text == 0) ≡ false → place ≡ position_or_len comma text →
     place ≡ length text → is_value text ≡ are_arguments text
 argument_alone text place some is all =
     sym (rw some (ap are_values (split_last comma text (omega (arith, is, all))) ∙ and_true (is_value text)))
 
--- several
+-- several arguments
 pub arguments_more : (text : List ℕ) (place : ℕ) → (length text == 0) ≡ false → place ≡ position_or_len comma text →
     place < length text →
     (is_value (take place text) && list_all is_next_value (slice_split comma (drop (place + 1) text))) ≡ are_arguments text

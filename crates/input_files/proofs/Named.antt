@@ -15,14 +15,14 @@ module _ {X : Type 0} (p : X → Bool) where
       let next : suc i ≡ i + 1 = omega arith in
       drop-cons xs i x low ∙ ap (λ (y : X). y ∷ drop (suc i) xs) (sym is) ∙ ap (λ n. x ∷ drop n xs) next
 
-  -- it is the one at this place
+  -- the item at this place is the first that passes
   pub found_here : (xs : List X) (i : ℕ) (x : X) → i < length xs → x ≡ get_or xs i x → p x ≡ true →
       i + position_or_len p (drop i xs) ≡ position_or_len p xs → i ≡ position_or_len p xs
   found_here xs i x low is passes so_far =
       let none : position_or_len p (drop i xs) ≡ 0 = ap (position_or_len p) (parted xs i x low is) ∙ first_of x (drop (i + 1) xs) passes in
       omega (arith, none, so_far)
 
-  -- it is none up to this place
+  -- the first item that passes comes after this place
   pub looked_on : (xs : List X) (i : ℕ) (x : X) → i < length xs → x ≡ get_or xs i x → p x ≡ false →
       i + position_or_len p (drop i xs) ≡ position_or_len p xs →
       i + 1 + position_or_len p (drop (i + 1) xs) ≡ position_or_len p xs
@@ -31,7 +31,7 @@ module _ {X : Type 0} (p : X → Bool) where
       ap (position_or_len p) (parted xs i x low is) ∙ later_than x (drop (i + 1) xs) fails in
       omega (arith, one, so_far)
 
-  -- it is none
+  -- no item passes
   pub found_nowhere : (xs : List X) (i : ℕ) → i ≡ length xs → i + position_or_len p (drop i xs) ≡ position_or_len p xs →
       i ≡ position_or_len p xs
   found_nowhere xs i whole so_far =

@@ -33,7 +33,7 @@ split_more xs some = slice_split_first is_white xs 0 some
 pub split_last : (xs : List ℕ) → length xs ≤ position_or_len is_white xs → slice_split is_white xs ≡ xs ∷ []
 split_last xs none = slice_split_none is_white xs (λ k d high. fails_before_first is_white xs k d (omega arith))
 
--- an item, and then the rest
+-- an item, and then the items of the rest
 pub piece_taken : (threads : List Thread) (start before : ℕ) (old : List Item) (piece : List ℕ) (item : Item) (pieces : List (List ℕ)) →
     0 < length piece → item_of threads start before piece ≡ Ok item →
     in_front (old ++ item ∷ []) (items_from threads (start + (length piece + 1)) (before + counted item.until) pieces)
@@ -52,14 +52,14 @@ split_any xs len is bound = elim (cases_lt len (length xs)) [
 module _ (threads : List Thread) (start before after : ℕ) (old : List Item) (rest text : List ℕ) (len : ℕ)
     (is : len ≡ position_or_len is_white rest) (bound : len ≤ length rest)
     (all : in_front old (items_from threads start before (slice_split is_white rest)) ≡ items_in threads text) where
-  -- a faulty item is the text's first
+  -- the fault of the first faulty piece is the text's fault
   pub pieces_fault : (fault : StepsFault) →
       IsFaultOfPiece threads start before (take len rest) fault → items_in threads text ≡ Err fault
   pieces_fault fault is_fault =
       let found = split_any rest len is bound in
       sym all ∙ ap (in_front old) (ap (items_from threads start before) found.1 ∙ is_fault found.0)
 
-  -- the same of a refusal
+  -- the same for a refusal
   pub pieces_refused : (refusal : StepsRefusal) →
       IfFault {T = Unit {0}} (Err refusal) (IsFaultOfPiece threads start before (take len rest)) →
       Answers (Err refusal) (items_in threads text)

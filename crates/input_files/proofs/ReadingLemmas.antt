@@ -30,11 +30,11 @@ line_taken format stage stage' number line next more short allowed = rw (le-ltb 
 abbrev pub feed : ℕ → Bool
 feed b = b == 10
 
--- a text has a piece
+-- a text has at least one piece
 none_left : (text : List ℕ) → slice_split feed text ≡ [] → ⊥
 none_left text none = omega (arith, length-slice_split feed text, ap length none)
 
--- a text's first piece, and the second
+-- the first piece of a text, and the second
 first_of_more : (text : List ℕ) (place : ℕ) → place ≡ position_or_len feed text → place < length text →
     (next : List ℕ) × (more : List (List ℕ)) × (slice_split feed text ≡ take place text ∷ next ∷ more)
     × (slice_split feed (drop (place + 1) text) ≡ next ∷ more)
@@ -78,7 +78,7 @@ module _ (text : List ℕ) (place : ℕ) (is : place ≡ position_or_len feed te
       ap history_of_pieces first.2
       ∙ rw (le-ltb LINE_LIMIT (length (take place text)) (omega (arith, length-take-le place text (omega arith), short)), some, first.3) refl
 
--- the lines after the first, as the history
+-- the first line is refused
 pub first_refused : (said : History) (rest : Lines) (format : Format) (fault : HistoryFault) →
     said ≡ with_format format rest → rest ≡ Err fault → said ≡ Err fault
 first_refused said rest format fault is wrong = is ∙ ap (with_format format) wrong
@@ -100,7 +100,7 @@ module _ (text : List ℕ) (place : ℕ) (is : place ≡ position_or_len feed te
   pub line_none : length text ≤ place → lines_in text ≡ []
   line_none all = ap all_but_last (split_last feed text (omega (arith, is, all)))
 
--- the rest of lines, a line further
+-- the remaining lines, one line further
 pub rest_further : (lines : List (List ℕ)) (i : ℕ) (line : List ℕ) (rest : List (List ℕ)) → drop i lines ≡ line ∷ rest →
     drop (suc i) lines ≡ rest
 rest_further [] zero line rest is = absurd (cc)
@@ -108,14 +108,14 @@ rest_further [] (suc i) line rest is = absurd (cc)
 rest_further (x ∷ lines) zero line rest is = cc
 rest_further (x ∷ lines) (suc i) line rest is = rest_further lines i line rest is
 
--- what is at a place, after those before it
+-- the line at a place is the first of those from the place on
 pub at_rest : (lines : List (List ℕ)) (i : ℕ) → slice_get lines i ≡ slice_get (drop i lines) 0
 at_rest [] zero = refl
 at_rest [] (suc i) = refl
 at_rest (x ∷ lines) zero = refl
 at_rest (x ∷ lines) (suc i) = at_rest lines i
 
--- none is left, however many more are passed
+-- no line is left after more lines have been skipped
 pub none_further : (lines : List (List ℕ)) (i n : ℕ) → drop i lines ≡ [] → i ≤ n → None ≡ slice_get lines n
 none_further [] i zero is most = refl
 none_further [] i (suc n) is most = refl
@@ -125,20 +125,20 @@ none_further (x ∷ lines) (suc i) (suc n) is most = none_further lines i n is (
 
 -- ---- the pieces after the first
 
--- whatever is said of the pieces that are left, is said of all
+-- the answer for the pieces that are left is the answer for all
 pub record Follows (said now : Lines) (lines left : List (List ℕ)) : Type 0 where
   pub right : now ≡ Ok left → said ≡ Ok lines
   pub wrong : (fault : HistoryFault) → now ≡ Err fault → said ≡ Err fault
 
 module _ (reader : Reader) (rest : List ℕ) (place : ℕ) (said : Lines) (lines : List (List ℕ)) (is : place ≡ position_or_len feed rest)
     (left : Follows said (lines_at reader (slice_split feed rest)) lines (lines_in rest)) where
-  -- after the last line feed there is nothing
+  -- after the last line feed there is an end
   pub end_reached : place ≡ length rest → IsEnd reader rest → said ≡ Ok lines
   end_reached all end =
       left.right (ap (lines_at reader) (split_last feed rest (omega (arith, is, all))) ∙ end
       ∙ ap Ok (sym (line_none rest place is (omega (arith, all)))))
 
-  -- or a fault
+  -- after the last line feed there is a fault
   pub end_refused : place ≡ length rest → (fault : HistoryFault) → IsFaultOfEnd reader rest fault → said ≡ Err fault
   end_refused all fault wrong =
       left.wrong fault (ap (lines_at reader) (split_last feed rest (omega (arith, is, all))) ∙ wrong)
@@ -148,13 +148,13 @@ module _ (reader : Reader) (rest : List ℕ) (place : ℕ) (said : Lines) (lines
   end_judged (Ok nothing) all end wrong = end_reached all end
   end_judged (Err fault) all end wrong = end_refused all fault wrong
 
-  -- a line at fault
+  -- a line is at fault
   pub line_refused : place < length rest → (fault : HistoryFault) → IsFaultOfLine reader (take place rest) fault → said ≡ Err fault
   line_refused less fault wrong =
       let first = first_of_more rest place is less in
       left.wrong fault (ap (lines_at reader) first.2 ∙ wrong first.0 first.1)
 
-  -- a line that is taken
+  -- a line is taken
   pub line_more : (reader' : Reader) → place < length rest → TakesLine reader reader' (take place rest) →
       Follows said (lines_at reader' (slice_split feed (drop (place + 1) rest))) lines (lines_in (drop (place + 1) rest))
   line_more reader' less takes =

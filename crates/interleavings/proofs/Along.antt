@@ -1,4 +1,4 @@
--- Many instructions of one thread are as many steps of it.
+-- Several instructions of one thread are as many steps of the thread.
 use Rattle.std.proofs.Common.{◌≡◌, ℕ, zero, suc, ◌+◌, ◌-◌, ◌<◌, ◌≤◌, List, [], ◌∷◌, ◌++◌, length, replicate, set, Some}
 use Rattle.std.proofs.Common.{refl, sym, ap, ap₂, ◌∙◌, subst, arith}
 use Rattle.std.specs.Prelude.{slice_get}
@@ -29,7 +29,7 @@ use Rattle.interleavings.proofs.Many.{replicate_push, one_step_more}
 use Rattle.core_lang.specs.Theory.Items.{set_same, set_itself}
 use Rattle.worlds.specs.Theory.Steps.{steps_more}
 
--- a state that is named for a section that runs is that it runs
+-- if the section that a name stands for is running, its state is `Running`
 named_running : (n : Next) → IsNamed n → IsRunning (open_of n) → state.Running (open_of n) ≡ state_of n
 named_running (next.Running o) named running = refl
 named_running (next.Asking o) named running = absurd (named.0 running.0)
@@ -37,7 +37,7 @@ named_running (next.Ended o) named running = absurd (named.1 running.1)
 
 module _ (plan : Plan) (m : Managed) (states : List TypedState) (t : ℕ) (tied : IsTied plan m states) (kept : IsKept m)
     (size : CommittedKeepsSize) (sound : StepsKeepSound) (ready : WorldsStayReady) (strict : PrecedesIsStrict) where
-  -- the given number of steps leads to where the thread is in this state, and all else as it was
+  -- the given number of steps brings the thread to this state, and changes nothing else
   pub record RunTo (j : ℕ) (x : TypedState) : Type 0 where
     pub tied_then : IsTied plan m (set states t x)
     pub world : world_after plan (world_of m states) (replicate j t) ≡ world_of m (set states t x)
@@ -70,7 +70,7 @@ module _ (plan : Plan) (m : Managed) (states : List TypedState) (t : ℕ) (tied 
       one_more j (moved_by j o) (next.Running (moved_by (suc j) o)) (slice_get_within states t (state.Running o) here)
       (all_along count o here running j (omega (arith, lt))) refl (running (suc j) lt)
 
-  -- each step of them is an instruction
+  -- each of these steps is an instruction
   pub each_moves : (count : ℕ) (o : OpenOf) → slice_get states t ≡ Some (state.Running o) →
       ((k : ℕ) → k < count → IsRunning (moved_by k o)) →
       (j : ℕ) → j < count → (happens plan (world_after plan (world_of m states) (replicate j t)) t).0 ≡ event.Moved
@@ -134,7 +134,7 @@ pub further_steps : (w : ThreadsOf) (a b t : ℕ) →
 further_steps w a b t =
     ap (threads_of w.plan) (sym (steps_more w.plan w.world (replicate a t) (replicate b t)) ∙ ap (world_after w.plan w.world) (sym (replicate_more a b t)))
 
--- a turn has the given number of steps left; after one more, and the given number of instructions, fewer are left
+-- a turn with some steps left has fewer left after one more step and the given number of instructions
 pub turn_on : (first w mid last : ThreadsOf) (count left more t : ℕ) (e : Event) → left ≤ count → 0 < left →
     more ≤ left - 1 →
     w ≡ with_steps first (replicate (count - left) t) → happens w.plan w.world t ≡ (e, mid.world) → mid.plan ≡ w.plan →

@@ -67,7 +67,7 @@ later_cell : (P : Type 0) (c cell : ℕ) (cs : List ℕ) → Contains (c ∷ cs)
 later_cell P c cell cs (zero, lt, e) ne go = absurd (ne e)
 later_cell P c cell cs (suc j, lt, e) ne go = go (j, omega (arith, lt), e)
 
--- what a heap has at one of some cells
+-- the value of one of some cells in a heap
 value_among : (heap : List Value) (cs : List ℕ) (cell : ℕ) → ((c : ℕ) → Contains cs c → c < length heap) →
     Contains cs cell →
     value_at (numbered cs (values_on heap cs)) cell ≡ slice_get heap cell

@@ -14,7 +14,7 @@ use Rattle.interleavings.specs.Working.Steps.{coming_at}
 use Rattle.interleavings.specs.Coming.{section_comes, open_comes, thread_comes, coming_to}
 use Rattle.core_lang.specs.Theory.Items.{map_at}
 
--- with a lock pending, and with an outcome
+-- the next step of a section with a pending lock is `Other`
 comes_asking : (a : Activation) (locks : List Lock) (outcome : Option Outcome) → locks ≢ [] →
     section_comes a locks outcome ≡ coming.Other
 comes_asking a [] outcome some = absurd (some refl)

@@ -29,7 +29,7 @@ use Rattle.worlds.specs.declared.event.Event.{Event}
 use Rattle.worlds.specs.Theory.Steps.{steps_more}
 use Rattle.worlds.specs.Worlds.{World, happens, world_after, opening_world}
 
--- ---- which thread
+-- ---- the thread that comes next
 
 module _ (plan : Plan) (w : World) (besides from : ℕ) where
   abbrev pub fits : Bool
@@ -151,7 +151,7 @@ module _ (t count : ℕ) (first now next : Contest) (e : Event) (so_far : OnWay 
       and_more (is_on_way r.0) (to_lock now.world.plan t (first.left - count - 1) r.1)) step
       ∙ ap (λ (n : ℕ). and_more (is_on_way e) (to_lock now.world.plan t n next.world.world)) fewer
 
-  -- it came to the place to which it was to go
+  -- the thread has reached the place to which it was to go
   pub reached : is_on_way e ≡ false → Some (count + 1) ≡ to_lock first.world.plan t first.left first.world.world
   reached there =
       let one : to_lock now.world.plan t (first.left - count) now.world.world ≡ Some 1 =
@@ -159,7 +159,7 @@ module _ (t count : ℕ) (first now next : Contest) (e : Event) (so_far : OnWay 
       ∙ ap (λ (b : Bool). and_more b (to_lock now.world.plan t (first.left - (count + 1)) next.world.world)) there in
       sym (so_far.comes ∙ ap (option_map (λ more. count + more)) one)
 
-  -- or is still on its way
+  -- the thread is still on its way
   pub on_way : is_on_way e ≡ true → OnWay t (count + 1) first next
   on_way still = record {
     takes = one_taken;
@@ -171,7 +171,7 @@ module _ (t count : ℕ) (first now next : Contest) (e : Event) (so_far : OnWay 
         option_map (λ more. (count + 1) + more) (to_lock p t (first.left - (count + 1)) next.world.world)) (sym plan);
   }
 
--- no step is left
+-- the steps ran out
 pub too_far : (t count : ℕ) (first now : Contest) → OnWay t count first now → first.left ≤ count →
     None ≡ to_lock first.world.plan t first.left first.world.world
 too_far t count first now so_far past =
@@ -190,7 +190,7 @@ those_after plan most left w next =
 abbrev those_next : Plan → ℕ → Contest → List Item
 those_next plan most contest = rivals_from plan most contest.left contest.world.world contest.stage
 
--- the items so far, with those that come next, are all
+-- the items so far, and those that come next, are all items
 pub record GoesOn (plan : Plan) (most : ℕ) (items : List Item) (contest : Contest) : Type 0 where
   pub few : length items ≤ most
   pub plan_is : contest.world.plan ≡ plan
@@ -243,7 +243,7 @@ module _ (plan : Plan) (most : ℕ) (items : List Item) (contest : Contest) (so_
   pub no_next : comes_next contest.world.plan ≡ None → items ≡ rivals_of plan most
   no_next none = sym (append-nil items) ∙ by_next None none
 
-  -- an item more
+  -- one more item
   pub item_more : (new : List Item) (item : Item) (next : Contest) → Advances item contest next →
       new ≡ items ++ item ∷ [] → GoesOn plan most new next
   item_more new item next comes more =
@@ -284,7 +284,7 @@ module _ (plan : Plan) (most : ℕ) (items : List Item) (contest : Contest) (so_
             ∙ by_next (Some n) comes.is;
       }
 
--- ---- their steps are within a file's
+-- ---- the items make at most as many steps as those of a file
 
 within_more : (goes : Bool) (left count : ℕ) (rest : Option ℕ) → ((n : ℕ) → rest ≡ Some n → n ≤ left) →
     cond goes (option_map (λ more. 1 + more) rest) (Some 1) ≡ Some count → count ≤ suc left
@@ -296,7 +296,7 @@ within_more false left count rest below is =
     let one : 1 ≡ count = some_is 1 count is in
     omega (arith, one)
 
--- a thread gets to its lock in as many steps as there are
+-- a thread reaches its lock in at most `left` steps
 lock_within : (plan : Plan) (t left : ℕ) (w : World) (count : ℕ) → to_lock plan t left w ≡ Some count → count ≤ left
 unfolding to_lock
 lock_within plan t zero w count is = absurd cc
@@ -304,7 +304,7 @@ lock_within plan t (suc left) w count is =
     within_more (is_on_way (happens plan w t).0) left count (to_lock plan t left (happens plan w t).1)
     (lock_within plan t left (happens plan w t).1) is
 
--- what is known of the next item: its steps are as many as it comes to
+-- the next item counts the steps until it ends
 abbrev Steps : Plan → ℕ → World → NextItem → Type 0
 Steps plan left w n = steps_until plan n.item.thread left w n.item.until ≡ Some n.count
 
@@ -370,7 +370,7 @@ all_taken plan (suc most) left w stage =
     (next_steps plan left w stage)
     (λ n. all_taken plan most (left - n.count) (world_after plan w (replicate n.count n.item.thread)) n.after)
 
--- rivals have turns
+-- the items of rivals have turns
 pub taken : (plan : Plan) (most : ℕ) (items : List Item) → items ≡ rivals_of plan most →
     (turns : List Turn) × (turns_of plan items ≡ Ok turns)
 taken plan most items is = rw is (all_taken plan most STEP_LIMIT (opening_world plan) (Round 0))

@@ -8,14 +8,14 @@ use Rattle.input_files.specs.Steps.{counted}
 use Rattle.interleavings.specs.Drawn.{draw_item, draw_items}
 use Rattle.interleavings.specs.Working.Draws.{CanCome}
 
--- the first of them
+-- the first item of the stream
 first : (threads count : ℕ) (s t : Stream) (x : Item) → (x, t) ≡ draw_item threads s →
     x ∷ draw_items threads count t ≡ draw_items threads (suc count) s
 unfolding draw_items
 first threads count s t x is =
     ap (λ (d : Item × Stream). d.0 ∷ draw_items threads count d.1) is
 
--- an item more, and those that the stream then gives
+-- one more item, and those that the stream then gives
 pub one_more : (threads count : ℕ) (items new : List Item) (s t : Stream) (x : Item) → length items < count →
     (x, t) ≡ draw_item threads s → new ≡ items ++ x ∷ [] →
     new ++ draw_items threads (count - length new) t ≡ items ++ draw_items threads (count - length items) s
@@ -32,7 +32,7 @@ pub none_left : (threads : ℕ) (s : Stream) → draw_items threads 0 s ≡ []
 unfolding draw_items
 none_left threads s = refl
 
--- an item more is of a thread, and counts few steps, as those before it do
+-- one more item is of a thread and has few steps, as the items before it
 pub can_come : (threads : ℕ) (items new : List Item) (x : Item) → CanCome threads items → x.thread < threads →
     counted x.until ≤ 8 → new ≡ items ++ x ∷ [] → CanCome threads new
 can_come threads items new x old thread few more = record {

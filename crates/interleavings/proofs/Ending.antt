@@ -84,14 +84,14 @@ granted_value cell_locks (x ∷ gs) g cell v d c at h = elim (in_cases x g gs c)
       ∙ granted_value cell_locks gs g cell v (distinct_rest x.lock (locks_of gs) d) rest at h)
 ]
 
--- a heap agrees with numbered values that it has place by place
+-- a heap agrees with numbered values if it has each of them at its place
 agrees_from : (heap : List Value) (cs : List ℕ) (vs : List Value) →
     ((k c : ℕ) (v : Value) → slice_get cs k ≡ Some c → slice_get vs k ≡ Some v → slice_get heap c ≡ Some v) → Agrees heap (numbered cs vs)
 agrees_from heap [] vs f = tt
 agrees_from heap (c ∷ cs) [] f = tt
 agrees_from heap (c ∷ cs) (v ∷ vs) f = (f 0 c v refl refl, agrees_from heap cs vs (λ k. f (suc k)))
 
--- a heap that has what the grants have together agrees with each of them
+-- the heap that the grants together have agrees with each of them
 grant_agrees : (cell_locks : List Lock) (gs : List GrantOf) (g : GrantOf) (heap : List Value) → OffsetsFindValues →
     AreDistinct (locks_of gs) → All (IsWhole cell_locks) gs →
     ((cell : ℕ) (v : Value) → value_at (cells_granted cell_locks gs) cell ≡ Some v → slice_get heap cell ≡ Some v) → Contains gs g → Agrees heap (cells_in cell_locks g)

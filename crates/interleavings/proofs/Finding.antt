@@ -23,13 +23,13 @@ use Rattle.interleavings.specs.declared.items.Finder.{Finder}
 
 -- ---- lists
 
--- with one item more, and others after it
+-- the items, with one more, and others after it
 one_more : (items more : List Item) (i : ℕ) (d : Item) → i < length items →
     take (i + 1) items ++ more ≡ take i items ++ get_or items i d ∷ more
 one_more items more i d low =
     ap (λ l. l ++ more) (take_more items i d low) ∙ append_assoc (take i items) (get_or items i d ∷ []) more
 
--- parted at an item
+-- the items are cut at one of them
 parted : (items : List Item) (i : ℕ) (d : Item) → i < length items →
     items ≡ take i items ++ get_or items i d ∷ drop (suc i) items
 parted [] i d low = absurd (omega (arith, low))
@@ -41,19 +41,19 @@ parted_with : (items more : List Item) (i : ℕ) (d : Item) → i < length items
 parted_with items more i d low =
     ap (λ l. l ++ more) (parted items i d low) ∙ append_assoc (take i items) (get_or items i d ∷ drop (suc i) items) more
 
--- a fault after turns
+-- a fault after some turns is the fault of the rest
 fault_behind : (turns : List Turn) (said : Result (List Turn) StepsFault) (fault : StepsFault) →
     in_front turns said ≡ Err fault → said ≡ Err fault
 fault_behind turns (Ok more) fault is = absurd cc
 fault_behind turns (Err other) fault is = is
 
--- what follows from a refusal's fault
+-- a refusal whose fault has a property has each weaker property
 pub weaker_fault : (T : Type 0) (refusal : StepsRefusal) (P Q : StepsFault → Type 0) → ((fault : StepsFault) → P fault → Q fault) →
     IfFault {T = T} (Err refusal) P → IfFault {T = T} (Err refusal) Q
 weaker_fault T (Fault fault) P Q so is = so fault is
 weaker_fault T NoMemory P Q so is = tt
 
--- the answer that a refusal's fault gives
+-- a refusal is the right answer if its fault is the one to report
 answered : (U : Type 0) (refusal : StepsRefusal) (P : StepsFault → Type 0) (said : Result (List Turn) StepsFault) →
     ((fault : StepsFault) → P fault → said ≡ Err fault) → IfFault {T = U} (Err refusal) P → Answers {T = Turn} (Err refusal) said
 answered U (Fault fault) P said so is = so fault is
@@ -111,7 +111,7 @@ module _ (items : List Item) (i : ℕ) (d : Item) (low : i < length items) (old 
             ∙ ap (λ (l : List Item). in_front old.turns.items (turns_from first.plan old.left first.world l)) (sym (one_more items more i d low));
       }
 
--- from the opening world on
+-- the run of items from the opening world
 pub run_made : (plan : Plan) (items : List Item) (old new : Finder) (first last : ThreadsOf) → first ≡ at_opening plan →
     {A E : Type 0} (r : Result A E) → OnOk r (RunsItems items old first new last) → OnOk r (RunsFromOpening plan items old new)
 run_made plan items old new first last opened (Ok a) is =
@@ -152,7 +152,7 @@ module _ (items : List Item) (i : ℕ) (d : Item) (low : i < length items) (old 
       ∙ so_far (get_or items i d ∷ more)
       ∙ ap (λ (l : List Item). in_front old.turns.items (counted_turns old.left l)) (sym (one_more items more i d low))
 
--- with the item ahead of them too
+-- the items from `len - 1` on are counted, if that item and those after it are
 pub counted_back : (items : List Item) (len : ℕ) (d : Item) → 0 < len → len ≤ length items → are_counted (drop len items) ≡ true →
     is_counted (get_or items (len - 1) d).until ≡ true → are_counted (drop (len - 1) items) ≡ true
 counted_back items len d some within rest here =
@@ -185,14 +185,14 @@ counted_same plan left w (item ∷ items) are =
     (λ n. turns_from plan (left - n) (world_after plan w (replicate n item.thread)) items) (λ n. counted_turns (left - n) items)
     (λ n. counted_same plan (left - n) (world_after plan w (replicate n item.thread)) items parts.1)
 
--- what follows a place
+-- taking as many items as are left takes all that are left
 pub rest_is : (items : List Item) (len : ℕ) → len ≤ length items → take (length items - len) (drop len items) ≡ drop len items
 rest_is items len within = take_all (length items - len) (drop len items) (simp length-drop (omega arith))
 
 -- ---- all items
 
 module _ (plan : Plan) (items : List Item) (len : ℕ) (start : Finder) (opened : start.turns.items ≡ []) (full : start.left ≡ STEP_LIMIT) where
-  -- the fault of the first is that of all
+  -- a fault in the items' run from the opening world is the fault of all items
   all_fault_first : (fault : StepsFault) → RunIsTooMuch (take len items) start (at_opening plan) fault → turns_of plan items ≡ Err fault
   all_fault_first fault is =
       ap (λ (n : ℕ). turns_from plan n (opening_world plan) items) (sym full)

@@ -59,7 +59,7 @@ module _ (w : World) (slots : List (Option SessionOf)) (states : List TypedState
         held = subst (λ (b : Activation). Contains b.held lock) (sym same) c;
       }
 
-  -- and the other way round
+  -- the converse: a thread whose session holds a lock has a section that holds it
   pub record IsOpenWith (t : ℕ) (lock : Lock) : Type 0 where
     pub section : Activation
     pub is_open : HasOpen w t section
@@ -124,7 +124,7 @@ holding lock (Some a) e = (a, refl, e)
 module _ (m : Managed) (w : World) (states : List TypedState) (kept : IsKept m) (threads : w.threads ≡ map thread_of states)
     (sessions : (t : ℕ) → session_in m.slots t ≡ session_at states t)
     (apart : (t u : ℕ) (a b : Activation) (lock : Lock) → HasOpen w t a → HasOpen w u b → among a.held lock ≡ true → among b.held lock ≡ true → t ≡ u) where
-  -- a thread that is found holds it
+  -- a thread that is found as the holder holds the lock
   found_takes : (lock : Lock) (u : ℕ) → holder w lock ≡ Some u → place_of m lock ≡ Some (Taken u)
   found_takes lock u e =
       let r = found 0 w.threads lock u e in

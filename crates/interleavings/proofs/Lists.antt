@@ -5,12 +5,12 @@ use Rattle.std.specs.List.{Contains}
 use Rattle.std.proofs.lemmas.Option.{none-some}
 use Rattle.core_lang.specs.Theory.Items.{some_same}
 
--- ---- what stands where
+-- ---- the items at the indices
 
 pub first : {X : Type 0} (y : X) (ys : List X) (x : X) → y ≡ x → Contains (y ∷ ys) x
 first y ys x e = (0, omega arith, e)
 
--- ---- the same everywhere
+-- ---- lists with equal items
 
 cons_none : {X : Type 0} {P : Type 0} (x : X) (xs : List X) → ((i : ℕ) → slice_get [] i ≡ slice_get (x ∷ xs) i) → P
 cons_none x xs f = absurd (none-some x (f 0))

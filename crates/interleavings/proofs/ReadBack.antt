@@ -57,7 +57,7 @@ decimals n h = decimal_by_steps IsDecimal one_digit more_digits n (omega arith)
 
 -- ---- the ends of items
 
--- a text without white bytes that begins with no byte of a name, and is read as the end of an item
+-- a text without white bytes whose first byte is not a name's, and which is read as the end of an item
 record Says (u : Until) (bytes : List ℕ) : Type 0 where
   sign : ℕ
   rest : List ℕ
@@ -116,7 +116,7 @@ letter_in_name b h = rw h refl
 name_no_white : (b : ℕ) → is_name_byte b ≡ true → is_white b ≡ false
 name_no_white b h = grind (arith, nat_tests)
 
--- a name as its bytes
+-- a name, by its bytes
 record IsNameOf (bytes : List ℕ) : Type 0 where
   some : 0 < length bytes
   each : list_all is_name_byte bytes ≡ true
@@ -133,7 +133,7 @@ name_of (b ∷ bs) h =
       no_digits = rw (some, letter_no_digit b s.0) refl;
     }
 
--- what says the thread ends ahead of the sign
+-- the name of the thread ends before the sign
 name_length : (xs rest : List ℕ) (sign : ℕ) → list_all is_name_byte xs ≡ true → is_name_byte sign ≡ false →
     thread_len (xs ++ sign ∷ rest) ≡ length xs
 name_length [] rest sign all none = rw none refl

@@ -21,7 +21,7 @@ use Rattle.interleavings.proofs.ReadBack.{texts_read_back}
 abbrev Turns : Type 0
 Turns = Result (List Turn) StepsFault
 
--- ---- they count no more steps than are left
+-- ---- turns count at most the remaining steps
 
 abbrev IfTurns : Type 0 → Turns → Type 0
 IfTurns P (Ok turns) = P

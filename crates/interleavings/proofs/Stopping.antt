@@ -55,7 +55,7 @@ module _ (plan : Plan) (t : ℕ) where
       ap (λ b. cond b (Some 0) (one_and (happens plan w t).0 (until_stop plan t left (happens plan w t).1))) is
       ∙ ap (λ n. one_and (happens plan w t).0 (until_stop plan t n (happens plan w t).1)) number
 
-  -- as many instructions
+  -- instructions of the thread add their number to the steps until it stops
   pub many_on : (k left : ℕ) (w : World) → k ≤ left →
       ((j : ℕ) → j < k → (happens plan (world_after plan w (replicate j t)) t).0 ≡ Moved) →
       until_stop plan t left w ≡ plus k (until_stop plan t (left - k) (world_after plan w (replicate k t)))
@@ -77,7 +77,7 @@ module _ (plan : Plan) (t : ℕ) where
 
 -- ---- `T!`, from a place on the way
 
--- the given number of steps was taken, and the rest are those from here on
+-- the given number of steps was taken; the remaining steps are those from the state now
 pub record OnTheWay (t left count : ℕ) (first now : ThreadsOf) : Type 0 where
   pub within : count ≤ left
   pub so_far : now ≡ with_steps first (replicate count t)

@@ -53,8 +53,8 @@ use Rattle.layout.specs.Theory.Numbers.{distinct_none, distinct_push}
 
 -- ---- the result of a step, piece by piece
 
--- the world's step leads to a world with the history of the manager and the threads of the states; of the sessions only
--- the thread's has changed, and its state is right
+-- the world's step leads to a world with the history of the manager and the threads of the states; only the session of
+-- the thread `t` has changed, and its state is right
 record Turn (plan : Plan) (m : Managed) (states : List TypedState) (t : ℕ) (e : Event) (x : TypedState) (m' : Managed) : Type 0 where
   after : World
   step : happens plan (world_of m states) t ≡ (e, after)
@@ -142,7 +142,7 @@ named_at plan t (next.Running o) named of = (of, named.0, named.1)
 named_at plan t (next.Asking o) named of = (of, named.0, named.1)
 named_at plan t (next.Ended o) named of = (of, named.0, named.1)
 
--- of its session an instruction changes nothing
+-- an instruction does not change the session
 record KeepsSession (a b : Activation) : Type 0 where
   call : b.call ≡ a.call
   begun : b.begun ≡ a.begun
@@ -278,7 +278,7 @@ module _ (plan : Plan) (m : Managed) (states : List TypedState) (t : ℕ) (tied 
 
   -- ---- a request
 
-  -- the lock that is granted is none of those held
+  -- the lock that is granted is not held yet
   new_lock : (o : OpenOf) (lock : Lock) (rest : List Lock) → WorldsStayReady → PrecedesIsStrict →
       slice_get states t ≡ Some (state.Asking o) →
       o.activation.pending ≡ lock ∷ rest → Contains o.activation.held lock → ⊥

@@ -35,14 +35,15 @@ one_and (Ended position) more = Some 1
 one_and _ (Some more) = Some (1 + more)
 one_and _ None = None
 
--- `T!`: no step if the thread waits or is idle; else one, and those from the world after it on
+-- `T!`: no step if the thread waits or is idle; otherwise one, and those from the world after it on
 unfoldable pub until_stop : Plan → ℕ → ℕ → World → Option ℕ
 until_stop plan t zero w = if is_stopped (status_of plan w t) then Some 0 else None
 until_stop plan t (suc left) w =
     if is_stopped (status_of plan w t) then Some 0
     else one_and (happens plan w t).0 (until_stop plan t left (happens plan w t).1)
 
--- `T+`: no step if the thread is idle; else one, even if it waits, and those from the world after it on as for `T!`
+-- `T+`: no step if the thread is idle; otherwise one, even if it waits, and those from the world after it on as for
+-- `T!`
 abbrev pub until_call_end : Plan → ℕ → ℕ → World → Option ℕ
 until_call_end plan t zero w = if is_idle (status_of plan w t) then Some 0 else None
 until_call_end plan t (suc left) w =

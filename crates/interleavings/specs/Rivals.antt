@@ -33,7 +33,7 @@ abbrev pub first_to_go : Plan → World → ℕ → ℕ → Option ℕ
 first_to_go plan w besides from =
     find (λ t. can_go plan w t && not (t == besides)) (range_with_len from (threads_in plan - from))
 
--- the thread of a round: the first from the number `from` on that can go on, else the first of all that can
+-- the thread of a round: the first from the number `from` on that can go on, or otherwise the first of all that can
 abbrev pub leader : Plan → World → ℕ → Option ℕ
 leader plan w from = option_or (first_to_go plan w (threads_in plan) from) (first_to_go plan w (threads_in plan) 0)
 

@@ -8,7 +8,7 @@ use Rattle.std.specs.Slice.{IsItemAt}
 use Rattle.std.proofs.lemmas.Option.{slice_get_past, slice_get_read}
 use Rattle.std.proofs.lemmas.List.Concat.{flat_map-append}
 
--- what a look-up at a place answers
+-- the item that a look-up at an index gives
 pub copied : {X : Type 0} (xs : List X) (i : ℕ) (found : Option (Bor X)) → IsItemAt xs i found → option_copied found ≡ slice_get xs i
 copied xs i None is = sym (slice_get_past xs i is.3)
 copied xs i (Some x) is = sym (slice_get_read xs (length xs) i x.now refl is.3.0 is.1)
@@ -19,13 +19,13 @@ at_map text [] k = refl
 at_map text (x ∷ xs) zero = refl
 at_map text (x ∷ xs) (suc k) = at_map text xs k
 
--- what stands at a place of a list that was made by two functions
+-- texts that were made by two functions are equal at each index if the lists are
 pub text_here : {A : Type 0} (text : A → List ℕ) (xs : List A) (names : List (String Global)) (k : ℕ) →
     map string_bytes names ≡ map text xs → option_map_or string_bytes (slice_get names k) [] ≡ option_map_or text (slice_get xs k) []
 text_here text xs names k same =
     sym (at_map string_bytes names k) ∙ ap (λ (l : List (List ℕ)). option_map_or (λ (t : List ℕ). t) (slice_get l k) []) same ∙ at_map text xs k
 
--- one more, in two pieces
+-- one more text, in two pieces
 pub one_more : (text : ℕ → List ℕ) (list : List ℕ) (i k : ℕ) (start old mid new : List ℕ) → i < length list → k ≡ get_or list i 0 →
     old ≡ start ++ flat_map (λ n. codes " " ++ text n) (take i list) → mid ≡ old ++ codes " " → new ≡ mid ++ text k →
     new ≡ start ++ flat_map (λ n. codes " " ++ text n) (take (i + 1) list)

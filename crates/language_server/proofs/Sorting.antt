@@ -10,7 +10,7 @@ chosen f Less a b c = refl
 chosen f Equal a b c = refl
 chosen f Greater a b c = refl
 
--- one more in a set, and in what its values say, where both have the same order
+-- one more element of a set, where the set and its values have the same order
 pub one_more : {A B : Type 0} (f : A → B) (c : A → A → Ordering) (d : B → B → Ordering) → ((x y : A) → c x y ≡ d (f x) (f y)) →
     (keys : List A) (key : A) → map f (insert_key c keys key) ≡ insert_key d (map f keys) (f key)
 one_more f c d same [] key = refl

@@ -13,14 +13,14 @@ use Rattle.lowering.specs.Plans.{Plan}
 use Rattle.language_server.specs.Takes.{Take, compare, take_before, point_takes, section_takes}
 use Rattle.language_server.specs.Working.Sets.{numbered_takes}
 
--- that of a list with paths
+-- the take of a list with paths
 pub one_take : (program : Typed) (section : Section) (start : ℕ) (list label : List ℕ) (set : List Take) → (length list == 0) ≡ false →
     label ≡ codes "take" ++ paths_text program section list →
     insert_key compare set (record { start = start; label = label }) ≡ fold (insert_key compare) set (take_before program section start list)
 one_take program section start [] label set some is = absurd (true≢false some)
 one_take program section start (i ∷ more) label set some is = ap (λ (l : List ℕ). insert_key compare set (record { start = start; label = l })) is
 
--- where no lists are left, nothing is
+-- nothing is left of an empty list
 drop_none : {X : Type 0} (k : ℕ) → ◌≡◌ {A = List X} (drop k []) []
 drop_none zero = refl
 drop_none (suc k) = refl
@@ -34,7 +34,7 @@ module _ (program : Typed) where
   no_sections [] = refl
   no_sections (s ∷ ss) = refl
 
-  -- those of the section of a number, and of the sections behind it
+  -- the takes of the section of a number, and of the sections after it
   pub one_section : (ss : List Section) (ls : List (List (List ℕ))) (k : ℕ) → k < length ss →
       section_takes program (drop k ss) (drop k ls)
       ≡ option_map_or (λ (s : Section). point_takes program s (points s) (lists_at ls k)) (slice_get ss k) []
@@ -47,7 +47,7 @@ module _ (program : Typed) where
   one_section (s ∷ ss) (l ∷ ls) zero within = refl
   one_section (s ∷ ss) (l ∷ ls) (suc k) within = one_section ss ls k (omega arith)
 
--- what is found, with the takes that are left, stays the whole
+-- the takes found so far and the remaining ones are all takes
 pub whole : (plan : Plan) (k : ℕ) (old new all : List Take) → k < length plan.program.sections.items →
     new ≡ fold (insert_key compare) old (numbered_takes plan k) →
     fold (insert_key compare) old (section_takes plan.program (drop k plan.program.sections.items) (drop k plan.lists)) ≡ all →

@@ -12,7 +12,7 @@ use Rattle.lowering.specs.Plans.{Plan}
 use Rattle.language_server.specs.Held.{held_line, line_if, section_lines}
 use Rattle.language_server.specs.Working.Lines.{lines_in, numbered_lines}
 
--- that of a point that is meant
+-- the line of a point that is meant
 pub one_line : (program : Typed) (section : Section) (meant : Bool) (held taken line : List ℕ) (set : List (List ℕ)) → meant ≡ true →
     line ≡ held_line program section held taken →
     insert_key (slice_cmp nat_cmp) set line ≡ fold (insert_key (slice_cmp nat_cmp)) set (line_if program section meant held taken)
@@ -20,7 +20,7 @@ one_line program section false held taken line set is same = absurd (true≢fals
 one_line program section true held taken line set is same = ap (insert_key (slice_cmp nat_cmp) set) same
 
 module _ (plan : Plan) (held : List (List (List ℕ))) (start : ℕ) where
-  -- those of the section of a number, and of the sections behind it
+  -- the lines of the section of a number, and of the sections after it
   one_section : (ss : List Section) (k n : ℕ) → k < length ss →
       section_lines plan held start n (drop k ss)
       ≡ option_map_or (lines_in plan held start n) (slice_get ss k) [] ++ section_lines plan held start (n + 1) (drop (suc k) ss)
@@ -28,7 +28,7 @@ module _ (plan : Plan) (held : List (List (List ℕ))) (start : ℕ) where
   one_section (s ∷ ss) zero n within = refl
   one_section (s ∷ ss) (suc k) n within = one_section ss k n (omega arith)
 
-  -- what is found, with the lines that are left, stays the whole
+  -- the lines found so far and the remaining ones are all lines
   pub whole : (k : ℕ) (old new all : List (List ℕ)) → k < length plan.program.sections.items →
       new ≡ fold (insert_key (slice_cmp nat_cmp)) old (numbered_lines plan held start k) →
       fold (insert_key (slice_cmp nat_cmp)) old (section_lines plan held start k (drop k plan.program.sections.items)) ≡ all →

@@ -23,7 +23,7 @@ one_more text warnings i w values new value lt is so_far pushed told =
     ∙ sym (ap (warned text) more ∙ ap (map (warning_data text)) (map_push warning_of (take i warnings) w)
     ∙ map_push (warning_data text) (map warning_of (take i warnings)) (warning_of w))
 
--- an item of a list is there whatever stands for those behind its end
+-- an item of a list does not depend on the default for indices past the end
 same_item : (faults : List Mistake) (i : ℕ) (d e : Mistake) → i < length faults → get_or faults i d ≡ get_or faults i e
 same_item [] i d e lt = absurd (omega arith)
 same_item (f ∷ fs) zero d e lt = refl

@@ -10,7 +10,7 @@ use Rattle.language_server.specs.Changes.{first_word}
 no_space : (b : ℕ) → is_name_byte b ≡ true → (b == 32) ≡ false
 no_space b is = grind (arith, nat_tests)
 
--- a name is the first word where a space is behind it
+-- a name that a space follows is the first word
 pub named_first : (name rest : List ℕ) → list_all is_name_byte name ≡ true → first_word (name ++ 32 ∷ rest) ≡ name
 named_first [] rest all = refl
 named_first (b ∷ name) rest all =

@@ -57,7 +57,8 @@ abbrev pub line_if : Typed → Section → Bool → List ℕ → List ℕ → Li
 line_if program section false held taken = []
 line_if program section true held taken = held_line program section held taken ∷ []
 
--- the lines of the points whose statement starts at this byte, each point with the lists of held and of acquired lock paths
+-- the lines of the points whose statement starts at this byte, each point with the lists of held and of acquired lock
+-- paths
 abbrev pub point_lines : Typed → Section → ℕ → List Point → List (List ℕ) → List (List ℕ) → List (List ℕ)
 point_lines program section start (p ∷ ps) (held ∷ helds) (taken ∷ takes) =
     line_if program section (start_of p == start) held taken ++ point_lines program section start ps helds takes

@@ -32,8 +32,8 @@ abbrev pub told_at : List ℕ → Plan → List (List (List ℕ)) → Option ℕ
 told_at text plan held None = null
 told_at text plan held (Some start) = hover_data text start (lines_of plan held start)
 
--- the text is accepted, and the hover lists the locks that are held at the statement at the position; or it has a fault, and
--- the hover is null
+-- the text is accepted, and the hover lists the locks that are held at the statement at the position; or it has a
+-- fault, and the hover is null
 pub data IsHoverOf (text : List ℕ) (position : Position) (told : Data) : Type 0 where
   accepted : (plan : Plan) (held : List (List (List ℕ))) → Accepts text plan.accepted → IsCompiled plan →
       AreHeld plan.program plan.ranks held → told ≡ told_at text plan held (statement_at text plan.program position) →

@@ -30,8 +30,8 @@ pub record IsNameTold (text : List ℕ) (tokens : List Token) (at declared : ℕ
   pub is_lock : IsLockLine text (class_of tokens declared) lock
   pub is_told : told ≡ hover_data (name_range text tokens at) (markdown (declaration_line tokens declared) lock)
 
--- a declared name stands at the position, and this is its hover; or none does, or the text has a lexical fault, and there is
--- no hover
+-- the hover of the declared name at the position; without such a name, or in a text with a lexical fault, there is no
+-- hover
 pub data IsNameHoverOf (text : List ℕ) (place : Position) : Option Data → Type 0 where
   named : {told : Data} (tokens : List Token) (at declared : ℕ) → HasTokens text (seen tokens) →
       name_number text place tokens ≡ Some at → declaration tokens at ≡ Some declared →

@@ -19,7 +19,7 @@ class_number program class = first (λ c. bytes_eq (class_name program c) class)
 abbrev pub rank_of : Typed → List ℕ → List ℕ → Option ℕ
 rank_of program ranks class = option_and_then (slice_get ranks) (class_number program class)
 
--- the words on a rank; none where there is no rank
+-- the words on a rank, which are empty for a name without a rank
 abbrev pub rank_words : Option ℕ → List ℕ
 rank_words None = []
 rank_words (Some rank) = codes ", rank " ++ decimal rank
@@ -28,14 +28,14 @@ rank_words (Some rank) = codes ", rank " ++ decimal rank
 abbrev pub class_line : List ℕ → Option ℕ → List ℕ
 class_line class rank = line (codes "lock class " ++ class ++ rank_words rank)
 
--- the text is accepted, and the line has the class with its rank in the order; or it has a fault, and the line has the class
--- alone
+-- the text is accepted, and the line has the class with its rank in the order; or it has a fault, and the line has the
+-- class alone
 pub data IsClassLine (text class told : List ℕ) : Type 0 where
   accepted : (plan : Plan) → Accepts text plan.accepted → IsCompiled plan →
       told ≡ class_line class (rank_of plan.program plan.ranks class) → IsClassLine text class told
   refused : (fault : Fault) → IsOfFirstPass text fault → told ≡ class_line class None → IsClassLine text class told
 
--- the line is empty where there is no lock
+-- the line on the class of a lock, which is empty for a name without a lock
 abbrev pub IsLockLine : List ℕ → Option (List ℕ) → List ℕ → Type 0
 IsLockLine text None told = told ≡ []
 IsLockLine text (Some class) told = IsClassLine text class told

@@ -73,10 +73,10 @@ fn actions_told(
     }
 }
 
-/// The actions for a range of a document: a list of the protocol's `CodeAction`, each a `quickfix` with its edit. Where the
-/// range meets the word of the text's fault, the list has one action for each note on the fault that proposes a change: for
-/// an unknown name a similar name, for what no lock protects the annotation, for an unexpected token a missing `;`, or that
-/// the token is left out. Otherwise the list is empty.
+/// The actions for a range of a document: a list of the protocol's `CodeAction`, each a `quickfix` with its edit. Where
+/// the range meets the word of the text's fault, the list has one action for each note on the fault that proposes a
+/// change: for an unknown name a similar name, for what no lock protects the annotation, for an unexpected token a
+/// missing `;`, or that the token is left out. Otherwise the list is empty.
 ///
 /// # Errors
 ///

@@ -160,8 +160,8 @@ fn told_value(alloc: Global, places: &Places<'_>, told: &Diagnosis) -> Result<Va
     }
 }
 
-/// The diagnostics of `text`: an error for its fault, with the notes and a suggested fix, and one for each further fault;
-/// for an accepted text a warning for each of its warnings. Related information has the URI `uri`.
+/// The diagnostics of `text`: an error for its fault, with the notes and a suggested fix, and one for each further
+/// fault; for an accepted text a warning for each of its warnings. Related information has the URI `uri`.
 ///
 /// # Errors
 ///

@@ -88,9 +88,10 @@ fn no_hints(alloc: Global) -> Value
     Value::Array(Vec::new(alloc))
 }
 
-/// The protocol's list of `InlayHint` for the lines of `text` from `first_line` to `last_line`, both included and counted
-/// from 0: `take PATHS` at each place where `check` has a line `at LINE:COL take PATHS`, in the order of the text. At one
-/// place each label stands once, in the order of its bytes. For a text that is not accepted the list is empty.
+/// The protocol's list of `InlayHint` for the lines of `text` from `first_line` to `last_line`, both included and
+/// counted from 0: `take PATHS` at each place where `check` has a line `at LINE:COL take PATHS`, in the order of the
+/// text. At one place each label stands once, in the order of its bytes. For a text that is not accepted the list is
+/// empty.
 ///
 /// # Errors
 ///

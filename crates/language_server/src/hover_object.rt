@@ -109,10 +109,11 @@ fn program_hover(
     }
 }
 
-/// The protocol's `Hover` on the statement at a position: the last one that starts in the position's line no later than the
-/// position. It has a line `NAME: holds PATHS, takes PATHS` for each section that runs the statement, each line once.
-/// `holds` lists the lock paths that are surely held when the statement is reached, or has `nothing`; `, takes PATHS` has
-/// the lock paths that `check` lists before it. `null` where there is no such statement, or the text is not accepted.
+/// The protocol's `Hover` on the statement at a position: the last one that starts in the position's line no later than
+/// the position. It has a line `NAME: holds PATHS, takes PATHS` for each section that runs the statement, each line
+/// once. `holds` lists the lock paths that are surely held when the statement is reached, or has `nothing`; `, takes
+/// PATHS` has the lock paths that `check` lists before it. `null` where there is no such statement, or the text is not
+/// accepted.
 ///
 /// # Errors
 ///

@@ -11,8 +11,8 @@ use serde_json::Value;
 use source::memory::NoMemory;
 use std::alloc::Global;
 
-/// The protocol's `Hover` at a position: on the name there, as [`name_hover`] writes it; or, where no declared name stands
-/// there, on the statement.
+/// The protocol's `Hover` at a position: on the name there, as [`name_hover`] writes it; or, where no declared name
+/// stands there, on the statement.
 ///
 /// # Errors
 ///

@@ -39,7 +39,8 @@ fn push_notes(message: &mut String, notes: &[Note]) -> Result<(), AllocError>
     Ok(())
 }
 
-/// The message of a fault: its text with its detail, a line for each note without a place, and a line for the suggested fix.
+/// The message of a fault: its text with its detail, a line for each note without a place, and a line for the suggested
+/// fix.
 pub fn fault_message(alloc: Global, fault: &Fault, notes: &[Note]) -> Result<String, AllocError>
     ensures { IfOk result (λ message. string_bytes message ≡ list.fault_message fault.now (map note_of notes.now)) }
 {

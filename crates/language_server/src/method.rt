@@ -14,7 +14,8 @@ pub enum Method {
     DocumentSymbol,
     /// `textDocument/formatting`: the edits that bring the text into its layout.
     Formatting,
-    /// `textDocument/hover`: the declaration of the name at a position, or else the locks that are held at the statement.
+    /// `textDocument/hover`: the declaration of the name at a position, or else the locks that are held at the
+    /// statement.
     Hover,
     /// `textDocument/inlayHint`: the locks that are acquired before statements.
     InlayHint,

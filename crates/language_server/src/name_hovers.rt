@@ -89,9 +89,9 @@ impl Name<'_> {
     }
 }
 
-/// The protocol's `Hover` on the name at a position: its declaration in a block of Markdown, on one line, and after it `lock
-/// class CLASS, rank RANK` where the name is that of a lock or of what a lock protects. The rank is given for accepted texts
-/// only. Nothing where no declared name stands at the position, or the text has a lexical fault.
+/// The protocol's `Hover` on the name at a position: its declaration in a block of Markdown, on one line, and after it
+/// `lock class CLASS, rank RANK` where the name is that of a lock or of what a lock protects. The rank is given for
+/// accepted texts only. Nothing where no declared name stands at the position, or the text has a lexical fault.
 ///
 /// # Errors
 ///

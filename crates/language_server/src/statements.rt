@@ -64,8 +64,8 @@ fn last_in(alloc: Global, program: &Typed, stretch: Stretch) -> Result<Option<us
     Ok(last)
 }
 
-/// The start of the statement at a position, if there is one: the last one that starts in the position's line no later than
-/// the position.
+/// The start of the statement at a position, if there is one: the last one that starts in the position's line no later
+/// than the position.
 pub fn statement(
     alloc: Global,
     text: &[u8],

@@ -41,7 +41,8 @@ fn follows_annotation(token: &Token) -> bool
     matches!(token, Token::Mark(_, Sign::Equals | Sign::Semicolon))
 }
 
-/// The place for an annotation of what has its name at byte `name`: the end of the last token before the next `=` or `;`.
+/// The place for an annotation of what has its name at byte `name`: the end of the last token before the next `=` or
+/// `;`.
 pub fn annotation_place(tokens: &[Token], name: usize) -> usize
     ensures { result ≡ changes.annotation_place (seen tokens.now) name }
 {

@@ -25,7 +25,7 @@ use Rattle.layout.specs.Layouts.{lock_fields, object_struct}
 use Rattle.layout.specs.Working.Numbers.{locks_in, openings_in}
 use Rattle.core_lang.specs.Theory.Items.{lookup_none, lookup_at, read_at, map_at}
 
--- ---- numbers below a bound that goes by several names
+-- ---- numbers below a bound that several terms denote
 
 pub below_same : (n a b : ℕ) → n < a → a ≡ b → n < b
 below_same n a b lt e = omega arith
@@ -134,7 +134,7 @@ module _ (program : Typed) (whose : CellOwner) where
       protecting program whose ≡ lookup found (λ (x : Array). Some (global_lock x.class))
   of_element array index found is e = ap (protecting program) is ∙ ap (λ (r : Option Array). lookup r (λ (x : Array). Some (global_lock x.class))) e
 
--- ---- what an object's places read
+-- ---- what the places of objects read
 
 module _ (program : Typed) (laid : IsLaidOut program) (o : ℕ) (x : Object) (at : slice_get program.shape.objects.items o ≡ Some x) where
   pub pool_within : x.pool < length program.shape.pools.items
@@ -149,7 +149,7 @@ module _ (program : Typed) (laid : IsLaidOut program) (o : ℕ) (x : Object) (at
     fields_read s is =
         sym (ap lock_fields (lookup_at (struct_of program.shape o) p.structure (λ (k : ℕ). slice_get program.structs.items k) (of_pool program.shape o x p at there) ∙ is))
 
--- ---- what a layout's places read
+-- ---- what the places of a layout read
 
 module _ (cells : List CellPlace) (cell n : ℕ) (x : CellPlace) (lt : cell < n) (is : x ≡ get_or cells cell x) where
   pub lock_read : length (locks_in cells) ≡ n → slice_get (locks_in cells) cell ≡ Some x.lock

@@ -42,7 +42,7 @@ one_locked program n locks grown lock are long is is_grown k lt =
     last [] x = refl
     last (y ∷ xs) x = last xs x
 
--- those of all cells, and of no others
+-- if these are the locks of all cells, they are the locks of no other cells
 all_locked : (program : Typed) (locks : List Lock) → length locks ≡ length program.cells.items →
     AreLocked program (length program.cells.items) locks →
     (cell : ℕ) → slice_get locks cell ≡ lock_of_cell program cell

@@ -33,7 +33,7 @@ alone : (x y : Lock) → Contains (x ∷ []) y → x ≡ y
 alone x y (zero, lt, e) = e
 alone x y (suc k, lt, e) = absurd (omega (arith, lt))
 
--- ---- what a list has is a lock
+-- ---- each item of the list is a lock
 
 global_is : (program : Typed) (n : ℕ) (o : Option LockClass) (lock : Lock) → slice_get program.classes.items n ≡ o →
     Contains (if_global_lock n o) lock → IsLock program lock
@@ -88,7 +88,7 @@ objects_are program (suc n) lock well c =
       | inr here ↦ object_lock_is program n lock well here
     ]
 
--- ---- and each lock is there
+-- ---- each lock is listed
 
 in_globals : (program : Typed) (n c : ℕ) (name : _) → c < n →
     slice_get program.classes.items c ≡ Some (class.Global name) → Contains (global_locks program n) (global_lock c)
@@ -151,7 +151,7 @@ listed program well lock = (
   λ h. is_there program lock (slice_get program.classes.items lock.class) well refl h,
 )
 
--- ---- what the places of classes tell
+-- ---- what the places of classes say
 
 pub knows_more : (program : Typed) (n k : ℕ) (classes grown : List ClassPlace) (c : LockClass) →
     KnowFields program n classes → length classes ≡ n →

@@ -48,7 +48,7 @@ pub record IsLocked (program : Typed) (found : Option Lock) : Type 0 where
   pub is : found ≡ Some lock
   pub listed : IsLock program lock
 
--- a class's lock
+-- the lock of a class
 of_class : (program : Typed) (lock : Lock) (c : LockClass) → slice_get program.classes.items lock.class ≡ Some c →
     IsLockOfClass program lock (Some c) → IsLock program lock
 of_class program lock c e h = subst (IsLockOfClass program lock) (sym e) h

@@ -12,7 +12,7 @@ use Rattle.layout.specs.Working.Numbers.{number_at, number_of, AreNumbered}
 use Rattle.core_lang.specs.Theory.Items.{lookup_some, contains_at, at_contained, both_false, lookup_at, read_at}
 use Rattle.core_lang.specs.Theory.Items.{pushed_at, still_at}
 
--- ---- what is found of a lock
+-- ---- the lock that is found
 
 pub record IsFound (classes : List ClassPlace) (objects : List ℕ) (locks : List Lock) (lock : Lock) : Type 0 where
   pub number : ℕ
@@ -111,7 +111,7 @@ pub distinct : (classes : List ClassPlace) (objects : List ℕ) (locks : List Lo
     AreNumbered classes objects locks → AreDistinct locks
 distinct classes objects locks are i j lock at_i at_j = let e : Some i ≡ Some j = sym (are i lock at_i) ∙ are j lock at_j in cc
 
--- ---- what the class of a found lock says
+-- ---- the class of a lock that is found
 
 module _ (classes : List ClassPlace) (objects : List ℕ) (locks : List Lock) (lock : Lock) (f : IsFound classes objects locks lock) (read : ClassPlace)
     (is_read : read ≡ get_or classes lock.class read) where

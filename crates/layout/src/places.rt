@@ -8,7 +8,8 @@ use locks::lock::Lock;
 pub enum ClassPlace {
     /// The class is one global lock, with this number.
     Global(usize),
-    /// The class is a lock field, with this index among the lock fields of its struct, and among the locks of an object.
+    /// The class is a lock field, with this index among the lock fields of its struct, and among the locks of an
+    /// object.
     Field(usize),
 }
 

@@ -97,8 +97,8 @@ impl Layout {
         self.cells[cell].opening
     }
 
-    /// The lock that protects `cell`, and the cell's index among the cells of this lock. The cells are counted from 0, in
-    /// order of their numbers.
+    /// The lock that protects `cell`, and the cell's index among the cells of this lock. The cells are counted from 0,
+    /// in order of their numbers.
     #[inline]
     pub fn slot_of(&self, cell: usize) -> (Lock, u32)
         requires { cell < length self.now.cell_locks }

@@ -30,7 +30,7 @@ none_left (x ∷ at) b e h = let n : suc (length at) ≡ 0 = eqb-true (suc (leng
 pub some_left : (at : List ℕ) (b : Bool) → b ≡ (length at == 0) → b ≡ false → at ≡ [] → ⊥
 some_left at b e h n = let f : (length at == 0) ≡ false = sym e ∙ h in let g : (length at == 0) ≡ true = rw n refl in absurd cc
 
--- the last token, at a place as it is computed
+-- the end token, at the index at which the code puts it
 pub end_seen : (text at : List ℕ) → at ≡ [] →
     tok_of end (length text - length at) (length text - length at) ≡ end_at (length text)
 end_seen text at e = let n : length text - length at ≡ length text = omega (arith, ap length e) in ap (λ n. tok_of end n n) n

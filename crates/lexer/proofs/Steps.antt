@@ -17,7 +17,7 @@ use Rattle.lexer.proofs.Gaps.{skip_comment, slash_is, Stands, skip_is}
 use Rattle.lexer.proofs.Units.{unit_begins, same_kind, same_unit, Over, Reads, over_code, Stuck, no_unit, over_unit}
 use Rattle.lexer.proofs.Units.{UnitAt, unit_law}
 
--- ---- a gap ends where skip ends
+-- ---- a gap ends where `skip` ends
 
 line_end : (line text : List ℕ) → list_all is_in_line line ≡ true → IsLineEnd text → after_line (line ++ text) ≡ text
 line_end [] [] h e = refl
@@ -163,7 +163,7 @@ lead_on : {text from : List ℕ} → Leads text from → {bytes rest : List ℕ}
 lead_on here n w = past n w here
 lead_on (past m v l) n w = past m v (lead_on l n w)
 
--- nothing that stands begins a comment
+-- a text that begins with a token does not begin with a comment
 stands_apart : (text : List ℕ) → Stands text → BeginsComment text → ⊥
 stands_apart text s c = let h : Stands (47 ∷ 47 ∷ c.0) = subst Stands c.1 s in let e : true ≡ false = h.1 in absurd cc
 
@@ -244,7 +244,7 @@ stuck_same (no_unit h) (over_unit k o i) = absurd (h o.bytes o.rest k o.parts o.
 stuck_same (over_unit k o i) (no_unit h) = absurd (h o.bytes o.rest k o.parts o.unit)
 stuck_same {t = t} (over_unit k o i) (over_unit l q j) = sym i ∙ ap over_code (over_same t k l o q.bytes q.rest q.parts q.unit q.longest) ∙ j
 
--- a fault of what is left, where no token comes next
+-- a fault of the remaining text, from which no token can be read
 record StuckAt (total : ℕ) (left : List ℕ) (c : Code) (start : ℕ) : Type 0 where
   stuck : Stuck (skip left) c
   is_at : total - length (skip left) ≡ start
@@ -369,7 +369,7 @@ module _ (total : ℕ) (text rest : List ℕ) (before : List Tok) (state : State
     pub end_only : (ts : List Tok) → AreTokens total text ts → before ++ end_at total ∷ [] ≡ ts
     end_only ts h = let p = state.only ts h in sym (p.1 ∙ ap (λ (l : List Tok). before ++ l) (end_alone p.2 done))
 
-    -- then the text has no fault
+    -- such a text has no fault
     pub no_fault : (c : Code) (start : ℕ) → IsFaultFrom total text c start → ⊥
     no_fault c start h = (fault_stuck total rest c start (state.faults c start h) (λ bytes behind k n w. no_next done n)).some done
 

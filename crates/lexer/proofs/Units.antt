@@ -156,7 +156,7 @@ same_kind a b k l h g e = let p : kind_of a ≡ Some k = kind_again h in let q :
 
 -- ---- two units at one place, both longest, are one
 
--- the same, of what follows a beginning that both have
+-- the same for two tokens that share the bytes `before`
 same_behind : (before a b r s : List ℕ) (k l : Lexeme) → a ++ r ≡ b ++ s → IsUnit (before ++ a) k →
     IsUnit (before ++ b) l → IsLongest (before ++ a) r → IsLongest (before ++ b) s → a ≡ b
 same_behind before [] [] r s k l e u v m n = refl

@@ -93,7 +93,7 @@ pub place_at : (locks : List Lock) (places : List LockPlace) (lock : Lock) (n : 
     number_from 0 locks lock ≡ Some n → place_in locks places lock ≡ slice_get places n
 place_at locks places lock n e = ap (λ o. lookup o (λ k. slice_get places k)) e
 
--- something put at the lock
+-- a place that is put for a lock is the place of that lock
 pub put_same : (locks : List Lock) (places : List LockPlace) (lock : Lock) (old p : LockPlace) →
     place_in locks places lock ≡ Some old → place_in locks (put_for locks places lock p) lock ≡ Some p
 put_same locks places lock old p e =
@@ -102,7 +102,7 @@ put_same locks places lock old p e =
     ∙ ap (λ ps. slice_get ps n.0) (put_at locks places lock p n.0 n.1)
     ∙ set_same places n.0 p (slice_get_within places n.0 old n.2)
 
--- and at another
+-- a place that is put for a lock leaves the places of other locks
 put_other_at : (locks : List Lock) (places : List LockPlace) (lock other : Lock) (p : LockPlace) (o q : Option ℕ) →
     number_from 0 locks lock ≡ o → number_from 0 locks other ≡ q → lock ≢ other →
     lookup q (λ n. slice_get (put_number o places p) n) ≡ lookup q (λ n. slice_get places n)
@@ -135,7 +135,7 @@ pub length-given_back : (locks : List Lock) (places : List LockPlace) (gs : List
 length-given_back locks places [] = refl
 length-given_back locks places (g ∷ gs) = length-put locks (given_back locks places gs) g.lock (Free g.values) ∙ length-given_back locks places gs
 
--- a place is free by one of the grants, or as it was before
+-- a lock's place is free with the values of a grant, or is as it was before
 pub back_cases : (locks : List Lock) (places : List LockPlace) (gs : List GrantOf) (lock : Lock) (p : LockPlace) →
     place_in locks (given_back locks places gs) lock ≡ Some p →
     ((g : GrantOf) × Contains gs g × (g.lock ≡ lock) × (Free g.values ≡ p)) ⊎ (((g : GrantOf) → Contains gs g → g.lock ≢ lock) × (place_in locks places lock ≡ Some p))
@@ -154,7 +154,7 @@ back_cases locks places (g ∷ gs) lock p e = elim (lock_cases g.lock lock) [
   ]
 ]
 
--- and as it was where none is of its lock
+-- the place of a lock without a grant is as it was before
 pub back_kept : (locks : List Lock) (places : List LockPlace) (gs : List GrantOf) (lock : Lock) →
     ((g : GrantOf) → Contains gs g → g.lock ≢ lock) →
     place_in locks (given_back locks places gs) lock ≡ place_in locks places lock

@@ -37,7 +37,7 @@ pub beyond : (heap : List Value) (rs : List (ℕ × Value)) (k : ℕ) (d : ℕ �
     length heap ≤ (get_or rs k d).0 → Agrees heap rs → ⊥
 beyond heap rs k d lt past a = absurd (omega (arith, past, slice_get_within heap (get_or rs k d).0 (get_or rs k d).1 (agrees_at heap rs k d lt a)))
 
--- the values of cells, with their numbers
+-- the values of cells, with the cells' numbers
 pub have_at : (heap : List Value) (cs : List ℕ) (vs : List Value) (k c : ℕ) (v : Value) → length vs ≡ length cs →
     k < length cs → Agrees heap (numbered cs vs) →
     slice_get heap (get_or cs k c) ≡ Some (get_or vs k v)
@@ -63,7 +63,7 @@ have_more heap cs vs k c v e lt a at =
 
 -- ---- what is written
 
--- no write of the cell before
+-- none of the writes so far is of the cell
 none_before_suc : (ws : List (ℕ × Value)) (k cell : ℕ) (d : ℕ × Value) → k < length ws →
     value_at (take k ws) cell ≡ None → (get_or ws k d).0 ≢ cell →
     value_at (take (suc k) ws) cell ≡ None
@@ -115,7 +115,7 @@ same_default [] i d e lt = absurd (omega (arith, lt))
 same_default (w ∷ ws) zero d e lt = refl
 same_default (w ∷ ws) (suc i) d e lt = same_default ws i d e (omega (arith, lt))
 
--- the lesser half, and the greater
+-- the lesser half of the writes, and the greater half
 pub below_more : (ws : List (ℕ × Value)) (middle cell : ℕ) (e : ℕ × Value) → Rise ws → middle < length ws →
     (get_or ws middle e).0 < cell →
     (i : ℕ) (d : ℕ × Value) → i < middle + 1 → (get_or ws i d).0 < cell
@@ -142,7 +142,7 @@ side zero (suc k) ne = inl (omega arith)
 side (suc i) zero ne = inr (omega arith)
 side (suc i) (suc k) ne = elim (side i k (λ e. ne (ap suc e))) [ inl h ↦ inl (omega (arith, h)) | inr h ↦ inr (omega (arith, h)) ]
 
--- a cell that isn't where it had to be
+-- a cell that is not at the index where a sorted list would have it is not in the list
 pub not_there : (ws : List (ℕ × Value)) (low cell : ℕ) (e : ℕ × Value) → Rise ws → low < length ws →
     (get_or ws low e).0 ≢ cell →
     ((i : ℕ) (d : ℕ × Value) → i < low → (get_or ws i d).0 < cell) → ((i : ℕ) (d : ℕ × Value) → low ≤ i → i < length ws → cell ≤ (get_or ws i d).0) →
@@ -184,7 +184,7 @@ pub values_on-more : (heap : List Value) (cs : List ℕ) (k d : ℕ) (v : Value)
     values_on heap (take (k + 1) cs) ≡ values_on heap (take k cs) ++ v ∷ []
 values_on-more heap cs k d v lt e = ap (values_on heap) (take_more cs k d lt) ∙ values_on-push heap (take k cs) (get_or cs k d) v e
 
--- one more cell of a row
+-- one more cell of a row, with its value
 pub one_value_more : (heap : List Value) (cs : List ℕ) (k d : ℕ) (e : Value) (vs more : List Value) → k < length cs →
     get_or cs k d < length heap →
     vs ≡ values_on heap (take k cs) → more ≡ vs ++ get_or heap (get_or cs k d) e ∷ [] → more ≡ values_on heap (take (k + 1) cs)
@@ -199,7 +199,7 @@ length-values_on heap (c ∷ cs) all =
     let v = get_some heap c (all 0 c (omega arith)) in
     ap (λ o. length (if_there o (values_on heap cs))) v.1 ∙ ap suc (length-values_on heap cs (λ k d lt. all (suc k) d (omega (arith, lt))))
 
--- values that a heap has at these cells are those on it
+-- values with which a heap agrees at some cells are the heap's values there
 pub values_agree : (heap : List Value) (cs : List ℕ) (vs : List Value) → length vs ≡ length cs →
     Agrees heap (numbered cs vs) → vs ≡ values_on heap cs
 values_agree heap [] [] e a = refl
@@ -207,7 +207,7 @@ values_agree heap [] (v ∷ vs) e a = absurd (omega (arith, e))
 values_agree heap (c ∷ cs) [] e a = absurd (omega (arith, e))
 values_agree heap (c ∷ cs) (v ∷ vs) e a = ap (λ xs. v ∷ xs) (values_agree heap cs vs (omega (arith, e)) a.1) ∙ sym (ap (λ o. if_there o (values_on heap cs)) a.0)
 
--- heaps that agree at the cells
+-- heaps that agree at some cells have the same values there
 pub values_same : (heap other : List Value) (cs : List ℕ) →
     ((c : ℕ) → Contains cs c → slice_get heap c ≡ slice_get other c) → values_on heap cs ≡ values_on other cs
 values_same heap other [] f = refl
@@ -220,7 +220,7 @@ later_cell : (P : Type 0) (c cell : ℕ) (cs : List ℕ) (j : ℕ) → j < lengt
 later_cell P c cell cs zero lt e ne go = absurd (ne e)
 later_cell P c cell cs (suc j) lt e ne go = go (j, omega (arith, lt), e)
 
--- what the heap has at one of the cells
+-- the value of one of some cells in a heap
 pub value_among : (heap : List Value) (cs : List ℕ) (cell : ℕ) → All (λ (c : ℕ). c < length heap) cs →
     Contains cs cell →
     value_at (numbered cs (values_on heap cs)) cell ≡ slice_get heap cell

@@ -159,7 +159,7 @@ joined : (o : Option Lock) (w x : Waiter) (ws : List Waiter) → Contains ws x �
 joined None w x ws c = Contains-append_left ws (w ∷ []) x c
 joined (Some l) w x ws c = c
 
--- the one that asks waits then
+-- the thread that asks now waits
 joins : (o : Option Lock) (w : Waiter) (ws : List Waiter) → ((l : Lock) → o ≡ Some l → Contains ws w) →
     Contains (joining o w ws) w
 joins None w ws f = Contains-push ws w

@@ -117,7 +117,7 @@ pub one_longer : (b : Bool) (n m : ℕ) → n ≡ (if b then m + 1 else m) → n
 one_longer true n m e = omega (arith, e)
 one_longer false n m e = omega (arith, e)
 
--- the waiter that is looked for
+-- the waiter that the search looks for
 pub nth_found : (items queue : List Waiter) (i left n : ℕ) (d : Waiter) (lock : Lock) → items ≡ queue →
     i < length items → same_lock (get_or items i d).lock lock ≡ true → left ≡ 0 →
     slice_get (waiting_in queue lock) n ≡ slice_get (waiting_in (drop i queue) lock) left → Some (get_or items i d).thread ≡ slice_get (waiting_in queue lock) n

@@ -118,7 +118,7 @@ asks_rise m k t asker lock at ask held c =
     let r = map_back asker_of m.slots t asker at in
     slot_rises m k t lock held r.0 r.1 (ap (λ (a : Asker). a.ask) r.2 ∙ ask) (subst (λ (a : Asker). Contains a.held held) (sym r.2) c)
 
--- who holds a lock is another than the one that may ask for it
+-- the holder of a lock is another thread than the one that may ask for it
 pub held_by_another : (m : Managed) (ticket : TicketOf) (lock : Lock) (h : ℕ) → IsKept m → Knows m ticket →
     ComesAfter m.ranks ticket.session.held lock → PrecedesIsStrict →
     place_of m lock ≡ Some (Taken h) → ticket.thread ≢ h
@@ -127,7 +127,7 @@ held_by_another m ticket lock h k known rises strict here e =
     let same = some_same ticket.session own.session (sym known ∙ ap (session_in m.slots) e ∙ own.is) in
     strict.not_itself m.ranks lock (rises lock (subst (λ (s : SessionOf). Contains s.held lock) (sym same) own.held))
 
--- ---- at first
+-- ---- the opening state
 
 none_open : (n t : ℕ) (s : SessionOf) → session_in (replicate n None) t ≡ Some s → ⊥
 none_open zero t s e = none-some s e

@@ -42,7 +42,7 @@ closed_asks_nothing slots t lock s e free a =
     none-some lock (sym free ∙ ap (λ (x : SessionOf). x.ask) (sym same) ∙ a.ask)
 
 module _ (slots : List (Option SessionOf)) (t : ℕ) (s : Option SessionOf) (lt : t < length slots) where
-  -- the holder after the change
+  -- the holder of a lock after the change
   pub holds_cases : (u : ℕ) (lock : Lock) → Holds (set slots t s) u lock →
       ((t ≡ u) × (x : SessionOf) × (s ≡ Some x) × Contains x.held lock) ⊎ ((t ≢ u) × Holds slots u lock)
   holds_cases u lock h = elim (cases_eq t u) [
@@ -57,7 +57,7 @@ module _ (slots : List (Option SessionOf)) (t : ℕ) (s : Option SessionOf) (lt 
       Holds (set slots t s) u lock
   holds_same x u lock e is c = record { session = x; is = ap (session_in (set slots t s)) (sym e) ∙ session_same slots t s lt ∙ is; held = c }
 
-  -- the asker after the change
+  -- the thread that asks for a lock after the change
   pub asks_cases : (u : ℕ) (lock : Lock) → Asks (set slots t s) u lock →
       ((t ≡ u) × (x : SessionOf) × (s ≡ Some x) × (x.ask ≡ Some lock)) ⊎ ((t ≢ u) × Asks slots u lock)
   asks_cases u lock a = elim (cases_eq t u) [
@@ -65,7 +65,7 @@ module _ (slots : List (Option SessionOf)) (t : ℕ) (s : Option SessionOf) (lt 
     | inr ne ↦ inr (ne, record { session = a.session; is = sym (session_other slots t u s ne) ∙ a.is; ask = a.ask })
   ]
 
-  -- what the changed slot says of its ask
+  -- the request of the changed slot
   pub asked_session : (x : SessionOf) (u : ℕ) (lock : Lock) → t ≡ u → s ≡ Some x → (a : Asks (set slots t s) u lock) →
       x ≡ a.session
   asked_session x u lock e is a = some_same x a.session (sym (ap (session_in (set slots t s)) (sym e) ∙ session_same slots t s lt ∙ is) ∙ a.is)
@@ -84,7 +84,7 @@ module _ (slots : List (Option SessionOf)) (t : ℕ) (s : Option SessionOf) (lt 
       Asks (set slots t s) u lock
   asks_same x u lock e is q = record { session = x; is = ap (session_in (set slots t s)) (sym e) ∙ session_same slots t s lt ∙ is; ask = q }
 
-  -- each holds its locks once
+  -- each session holds its locks once
   pub once_set : ((u : ℕ) (x : SessionOf) → session_in slots u ≡ Some x → AreDistinct x.held) →
       ((x : SessionOf) → s ≡ Some x → AreDistinct x.held) →
       (u : ℕ) (x : SessionOf) → session_in (set slots t s) u ≡ Some x → AreDistinct x.held

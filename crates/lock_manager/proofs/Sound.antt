@@ -84,7 +84,7 @@ sound_grant m promised ticket lock values n places waiters slots s known asks fo
       ),
     )
 
--- where it asks for the first time there is room in the queue
+-- a thread that asks for the first time has room in the queue
 pub room_to_wait : (m : Managed) (promised : PromisedOf) (ticket : TicketOf) → Sound m promised → Knows m ticket →
     ticket.session.ask ≡ None → length m.waiters < threads
 room_to_wait m promised ticket s known free =
@@ -134,7 +134,7 @@ sound_refusal m promised ticket lock places waiters slots s known asks places_ar
 
 -- ---- release and give_up
 
--- an open section has its promise
+-- what was promised covers an open section
 pub promised_one : (m : Managed) (promised : PromisedOf) (t cells : ℕ) (x : SessionOf) → Sound m promised →
     session_of m t ≡ Some x → cells ≡ cells_if_open (session_of m t) → IsPromised promised cells
 promised_one m promised t cells x s known cells_are = record {

@@ -139,8 +139,8 @@ impl<'p> Manager<'p> {
         }
     }
 
-    /// Ends the section of `ticket`: its cells come back, and its entry is appended to the history. The list of grants is
-    /// left empty, and the history copies the lists of `entry`, so that the caller can use the memory of both again.
+    /// Ends the section of `ticket`: its cells come back, and its entry is appended to the history. The list of grants
+    /// is left empty, and the history copies the lists of `entry`, so that the caller can use the memory of both again.
     pub fn release(
         &mut self,
         ticket: Ticket,

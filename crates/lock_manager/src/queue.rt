@@ -17,8 +17,8 @@ pub struct Waiter {
     pub lock: Lock,
 }
 
-/// The threads that wait, in the order in which they first asked. A thread waits for one lock at a time; one short queue
-/// therefore serves all locks, of which a program can have millions.
+/// The threads that wait, in the order in which they first asked. A thread waits for one lock at a time; one short
+/// queue therefore serves all locks, of which a program can have millions.
 #[derive(Drop)]
 pub struct Queue {
     waiters: Vec<Waiter>,

@@ -9,8 +9,8 @@ use locks::lock::Lock;
 use source::memory::NoMemory;
 use std::marker::Model;
 
-/// The record of an open section: the length of the history when it began, the locks that it holds, the lock that it asks
-/// for, and the most that it can need.
+/// The record of an open section: the length of the history when it began, the locks that it holds, the lock that it
+/// asks for, and the most that it can need.
 #[derive(Drop)]
 pub struct Session {
     begun: usize,
@@ -31,8 +31,8 @@ impl Model for Session {
 }
 
 impl Session {
-    /// The record of a section that begins, with room for the locks that it can hold. It uses the memory of `held`, which
-    /// grows if it is too small.
+    /// The record of a section that begins, with room for the locks that it can hold. It uses the memory of `held`,
+    /// which grows if it is too small.
     ///
     /// # Errors
     ///

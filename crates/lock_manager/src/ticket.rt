@@ -15,8 +15,8 @@ use source::memory::NoMemory;
 use std::alloc::Global;
 use std::marker::Model;
 
-// The contents of a ticket, in one block that is passed from one section to the next. The contents of a kept block don't
-// matter.
+// The contents of a ticket, in one block that is passed from one section to the next. The contents of a kept block
+// don't matter.
 #[derive(Drop)]
 pub(crate) struct TicketBlock {
     pub(crate) thread: u32,

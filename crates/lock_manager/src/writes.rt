@@ -10,8 +10,8 @@ use history::kept::CellValue;
 /// The most writes that are searched from the first on. More of them are searched by bisection, if they are in order.
 const FEW: usize = 4;
 
-/// The writes of an entry. The write of a cell is found by bisection if the entry has more than 4 writes and their cells
-/// rise.
+/// The writes of an entry. The write of a cell is found by bisection if the entry has more than 4 writes and their
+/// cells rise.
 #[derive(Clone, Copy)]
 pub struct Writes<'w> {
     writes: &'w [CellValue],

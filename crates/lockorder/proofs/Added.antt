@@ -23,7 +23,7 @@ use Rattle.lockorder.proofs.InSection.{Below, one_class, set_within}
 use Rattle.bit_set.specs.Theory.Bits.{or_none}
 use Rattle.core_lang.specs.Theory.Items.{drop_past}
 
--- ---- numbers below a bound that goes by several names
+-- ---- numbers below a bound that several terms denote
 
 pub below_same : (n a b : ℕ) → n < a → b ≡ a → n < b
 below_same n a b lt e = omega arith

@@ -1,4 +1,4 @@
--- A cycle as a fault, and that ranks leave none.
+-- A cycle as a fault, which a program with ranks does not have.
 use Rattle.std.proofs.Common.{◌≡◌, ℕ, ◌<◌, List, [], ◌∷◌, map, length, get_or, Some, refl, sym, ap, ◌∙◌, subst, arith}
 use Rattle.std.specs.Prelude.{slice_get, string_bytes}
 use Rattle.std.specs.Option.{option_map}

@@ -36,7 +36,7 @@ module _ (x : Points) (later : List PathSet) (are : AreBoundLater x later) (p : 
   bound_later q i before h =
       (are.1 p i (set_at later p) there).1 (q, set_at x.bound.items q, before, slice_get-get_or x.bound.items q no_paths (set_within x.bound.items q i h), h)
 
-  -- the paths of a union with those of the point itself
+  -- the union of the paths that are bound later and of those that the point itself binds
   pub any_behind : (here both : PathSet) → here ≡ set_at x.bound.items p →
       ((i : ℕ) → has both i ≡ (has here i || has (set_at later p) i)) → HasAnyBehind x p both
   any_behind here both same union d bound (inl e, h) =
@@ -79,7 +79,7 @@ module _ (x : Points) (class : ℕ) (roots : PathSet) (of : (i : ℕ) → Decide
   roots_within i h = slice_get_within x.classes.items i class ((of i).0 h)
 
   module _ (list : List ℕ) (are : AreListedBindings x list) where
-    -- the binding point of this number is none for them
+    -- the binding point of this number is not one for these roots
     abbrev pub IsNotFor : ℕ → Type 0
     IsNotFor j = IsBindingFor x roots p (get_or list j 0) → ⊥
 
@@ -121,7 +121,7 @@ module _ (x : Points) (class : ℕ) (roots : PathSet) (of : (i : ℕ) → Decide
 
 -- ---- the list of binding points
 
--- of the points below n
+-- the binding points among the points below `n`
 pub record AreListedBelow (x : Points) (n : ℕ) (list : List ℕ) : Type 0 where
   pub within : All (λ p. p < n) list
   pub rising : AllPairs ◌<◌ list

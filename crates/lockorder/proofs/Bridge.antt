@@ -32,7 +32,7 @@ use Rattle.core_lang.specs.Theory.Items.{contains_at, at_contained, map_some, ge
 abbrev pub MakesIn : Typed → ℕ → ℕ → ℕ → Type 0
 MakesIn program k c d = (used bound : ℕ) × Makes program k used bound c d
 
--- the points that stand at a place are those of the section of that number
+-- the points at an index are those of the section of that number
 pub section_at : (program : Typed) (all : List Points) → AreAllPointsOf program all → (k : ℕ) (x : Points) →
     k < length all → x ≡ get_or all k x →
     (section : Section) × (slice_get program.sections.items k ≡ Some section) × ArePoints program section x

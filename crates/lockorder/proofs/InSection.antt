@@ -13,7 +13,7 @@ use Rattle.locks.specs.Sets.{has}
 use Rattle.points.specs.declared.table.Points.{Points}
 use Rattle.lockorder.specs.Working.Sections.{IsIn, Share, no_paths, set_at, IsOfClass, HasClass, UsesSoFar}
 
--- ---- what holds of some number below a bound
+-- ---- a property of some number below a bound
 
 abbrev pub Below : (ℕ → Type 0) → ℕ → Type 0
 Below P n = (i : ℕ) × (i < n) × P i
@@ -28,10 +28,10 @@ module _ (P : ℕ → Type 0) (n : ℕ) where
   pub below_cases : Below P (n + 1) → Below P n ⊎ P n
   below_cases h = elim (cases_lt h.0 n) [ inl less ↦ inl (h.0, less, h.2) | inr ge ↦ let at : h.0 ≡ n = omega (arith, h.1) in inr (subst P at h.2) ]
 
--- ---- a test that is joined with more
+-- ---- a test joined with another one
 
 module _ (P : ℕ → Type 0) (n : ℕ) (Q : Type 0) (old new t : Bool) where
-  -- of what was there before, or holds of some number
+  -- a property that held before, or holds of some number below `n`
   pub joined : Decides old (Q ⊎ Below P n) → new ≡ (old || t) → Decides t (P n) → Decides new (Q ⊎ Below P (n + 1))
   joined d e here = (
     λ h. elim (or_cases old t (sym e ∙ h)) [
@@ -53,7 +53,7 @@ module _ (P : ℕ → Type 0) (n : ℕ) (Q : Type 0) (old new t : Bool) where
     ],
   )
 
--- the same of a test that is true of what was there before, and of what holds of the next number
+-- the same for a test that succeeds if it did before, or if the next number has the property
 pub joined_by : (P : ℕ → Type 0) (n : ℕ) (Q R : Type 0) (old new : Bool) → Decides old (Q ⊎ Below P n) →
     Decides new ((old ≡ true) ⊎ R) → (R → P n) → (P n → R) →
     Decides new (Q ⊎ Below P (n + 1))
@@ -73,7 +73,7 @@ joined_by P n Q R old new d e to from = (
 no_path : (i : ℕ) → has no_paths i ≡ false
 no_path i = ap (λ x. x == 1) (bit_at-zero i)
 
--- a path in the set of a point is in one that there is
+-- a path in the set of a point is in a set of the list
 pub set_within : (sets : List PathSet) (p i : ℕ) → IsIn (set_at sets p) i → p < length sets
 set_within sets p i h =
     elim (cases_lt p (length sets)) [
@@ -90,14 +90,14 @@ class_read x i c lt e = slice_get_read x.classes.items (length x.classes.items) 
 pub one_class : (x : Points) (i c d : ℕ) → IsOfClass x c i → IsOfClass x d i → c ≡ d
 one_class x i c d e f = let both : Some c ≡ Some d = sym e ∙ f in cc
 
--- which class a path is of
+-- the class of a path
 pub class_decides : (x : Points) (i here c : ℕ) → IsOfClass x here i → Decides (c == here) (IsOfClass x c i)
 class_decides x i here c e = (
   λ h. subst (λ d. IsOfClass x d i) (sym (eqb-true c here h)) e,
   λ h. eq-eqb c here (one_class x i c here h e),
 )
 
--- a set shares a path with those of a class where it has one of the class
+-- a set shares a path with those of a class exactly if it has a path of the class
 module _ (x : Points) (s paths : PathSet) (c : ℕ) (of : (i : ℕ) → Decides (has paths i) (IsOfClass x c i)) where
   pub shared_class : Share s paths → HasClass x s c
   shared_class h = (h.0, h.1, (of h.0).0 h.2)
@@ -105,7 +105,7 @@ module _ (x : Points) (s paths : PathSet) (c : ℕ) (of : (i : ℕ) → Decides 
   pub class_shared : HasClass x s c → Share s paths
   class_shared h = (h.0, h.1, (of h.0).1 h.2)
 
--- what is used so far is in the union
+-- the union has the paths that are used so far
 module _ (x : Points) (p c : ℕ) (s : PathSet) (union : (i : ℕ) → has s i ≡ (has (set_at x.used.items p) i || has (set_at x.used_before.items p) i)) where
   pub used_in_union : HasClass x s c → UsesSoFar x p c
   used_in_union h =
@@ -124,6 +124,6 @@ same_set x s t c e h = subst (λ (u : PathSet). HasClass x u c) e h
 pub same_bits : (s t : PathSet) (i : ℕ) → s.bits ≡ t.bits → IsIn s i → IsIn t i
 same_bits s t i e h = let same : has s i ≡ has t i = ap (λ n. bit_at n i == 1) e in sym same ∙ h
 
--- the next point, and those before it
+-- no number up to this one has the property, if none before it and not this one has it
 pub none_next : (P : ℕ → Type 0) (n : ℕ) → ((u : ℕ) → u < n → P u → ⊥) → (P n → ⊥) → (u : ℕ) → u < n + 1 → P u → ⊥
 none_next P n none here u lt p = elim (cases_lt u n) [ inl less ↦ none u less p | inr ge ↦ let at : u ≡ n = omega arith in here (subst P at p) ]

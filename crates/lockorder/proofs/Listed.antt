@@ -15,7 +15,7 @@ use Rattle.bit_set.specs.Working.Sets.{has_number}
 use Rattle.lockorder.specs.Working.Tellings.{ArePairsOf}
 use Rattle.core_lang.specs.Theory.Items.{in_first}
 
--- of the pairs before this one those that the table has
+-- the pairs of the table that precede the pair (from, to)
 pub record AreListed (before : List BitSet) (from to : ℕ) (pairs : List (ℕ × ℕ)) : Type 0 where
   pub true : All (λ (pair : ℕ × ℕ). InTable before pair.0 pair.1) pairs
   pub rising : AllPairs Precedes pairs

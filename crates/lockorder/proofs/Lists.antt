@@ -50,12 +50,12 @@ among_or_not q xs =
       | inr not_so ↦ inr (λ c. both_ways (list_any (λ x. q == x) xs) not_so (is_among q xs c))
     ]
 
--- distinct numbers below n are at most n
+-- a list of distinct numbers below n has at most n items
 pub no_more : (xs : List ℕ) (n : ℕ) → AllPairs ◌≢◌ xs → All (λ x. x < n) xs → length xs ≤ n
 no_more xs n d b =
     length-le_from_distinct_below xs n (IsDistinct-from_AllPairs Decides-eqb xs d) (λ q e. All-contains (λ x. x < n) xs q b (among q xs e))
 
--- each number below n is among at least n
+-- a list that has each number below n has at least n items
 pub no_fewer : (xs : List ℕ) (n : ℕ) → ((q : ℕ) → q < n → Contains xs q) → n ≤ length xs
 no_fewer xs n h = le-length_from_below xs n (λ q lt. is_among q xs (h q lt))
 
@@ -84,7 +84,7 @@ found_below f (suc n) =
     or_last : (k : ℕ) → k < suc n → f n ≡ false → ((j : ℕ) → j < n → f j ≡ false) → f k ≡ false
     or_last k lt last none = elim (cases_lt k n) [ inl less ↦ none k less | inr ge ↦ let same : k ≡ n = omega arith in ap f same ∙ last ]
 
--- an option with a property that no value has is none
+-- an option with a property that no value has is `None`
 pub none_only : {A : Type 0} (C : Option A → Type 0) → ((x : A) → C (Some x) → ⊥) → (y : Option A) → C y → y ≡ None
 none_only C never None c = refl
 none_only C never (Some x) c = absurd (never x c)

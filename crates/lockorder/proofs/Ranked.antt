@@ -18,7 +18,7 @@ use Rattle.lockorder.proofs.Rising.{each_push, next_listed}
 use Rattle.lockorder.proofs.Stuck.{cycle_of_stuck}
 use Rattle.core_lang.specs.Theory.Items.{not_in_none, contains_at, pushed_at, set_same, still_other}
 
--- the given number of classes is listed, each the next one after those before it, with their places as ranks
+-- `count` classes are listed, each the next one after those before it, and their places are their ranks
 pub record AreRanked (before : List BitSet) (listed : BitSet) (ranks : List ℕ) (count : ℕ) : Type 0 where
   pub list : List ℕ
   pub long : length list ≡ count
@@ -96,7 +96,7 @@ module _ (before : List BitSet) (listed : BitSet) (ranks : List ℕ) (count : �
                 absurd (omega (arith, room, e, r.long, length-append r.list (c ∷ [])))
           ]
 
-  -- some class isn't listed, and none is ready
+  -- some class is not listed, and none is ready
   pub cycle_of_ranked : LeadsWithin before → count < length before → ((c : ℕ) → IsReadyIn before listed c → ⊥) →
       HasCycle before
   cycle_of_ranked within lt stuck =

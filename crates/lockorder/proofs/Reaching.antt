@@ -29,7 +29,7 @@ not_both o a e f = none-some a (sym e ∙ f)
 
 -- ---- distances
 
--- a class with a distance is one of those that the list has
+-- a class with a distance is a class of the list
 within : (ds : List (Option ℕ)) (c k : ℕ) → distance_of ds c ≡ Some k → c < length ds
 within ds c k e =
     elim (cases_lt c (length ds)) [ inl lt ↦ lt | inr ge ↦ absurd (not_both (distance_of ds c) k (get_or_past ds c None ge) e) ]
@@ -75,7 +75,7 @@ module _ (before : List BitSet) (r : Reached) (lt : r.target < length before) (d
     distinct = λ i j d less h. absurd (omega (arith, ap length cs));
   }
 
--- ---- one more
+-- ---- one more class
 
 module _ (before : List BitSet) (old new : Reached) (class distance b : ℕ) (r : AreReached before old) (at : distance_of old.distances.items class ≡ Some distance)
     (edge : InTable before b class) (lt : b < length before) (unknown : distance_of old.distances.items b ≡ None)
@@ -157,7 +157,7 @@ kept_further a b c x y = record {
 
 -- ---- the state after a turn
 
--- all that have to come before the class, below a bound
+-- each class below the bound that has to come before `class` has a distance
 pub record IsReaching (before : List BitSet) (old r : Reached) (class bound : ℕ) : Type 0 where
   pub reached : AreReached before r
   pub kept : KeepsReached old r
@@ -182,7 +182,7 @@ pub reaching_skip : (before : List BitSet) (old r new : Reached) (class bound : 
 reaching_skip before old r new class bound i same here =
     subst (λ (x : Reached). IsReaching before old x class (bound + 1)) (sym same) (reaching_next before old r r class bound i i.reached (all_kept r) here)
 
--- it is reached now
+-- the class at the bound is reached now
 pub reaching_take : (before : List BitSet) (old r new : Reached) (class bound distance : ℕ) →
     IsReaching before old r class bound → bound < length before →
     distance_of old.distances.items class ≡ Some distance → InTable before bound class → distance_of r.distances.items bound ≡ None →
@@ -195,7 +195,7 @@ reaching_take before old r new class bound distance i lt at edge unknown target 
     (one_kept before r new class distance bound i.reached there edge lt unknown target ds cs)
     (λ e. one_has before r new class distance bound i.reached there edge lt unknown target ds cs)
 
--- those at the first places have all before them
+-- for each of the first `bound` classes that were reached, all classes that have to come before it are reached
 pub record AreDoneBelow (before : List BitSet) (r : Reached) (bound : ℕ) : Type 0 where
   pub reached : AreReached before r
   pub done : (i c : ℕ) → i < bound → slice_get r.classes.items i ≡ Some c → IsDone before r.distances.items c
@@ -331,7 +331,8 @@ module _ (before : List BitSet) (ds : List (Option ℕ)) (c b : ℕ) where
 
 -- ---- the way back
 
--- the classes so far: each leads to the next and the last to the one that is reached, and all but the target are farther
+-- the cycle so far: each class leads to the next one, the last one to `class`, and all but the target are farther away
+-- than `class`
 pub record IsWay (before : List BitSet) (r : Reached) (cycle : List ℕ) (class distance : ℕ) : Type 0 where
   pub lead : LeadTo (InTable before) class cycle
   pub first : slice_index cycle 0 ≡ r.target
@@ -364,7 +365,7 @@ module _ (before : List BitSet) (r : Reached) (all : AreDistances before r) wher
     at = at;
   }
 
-  -- a class that isn't the target leads nearer
+  -- a class other than the target leads to a nearer one
   leads_nearer : (class distance : ℕ) → 0 < distance → distance_of r.distances.items class ≡ Some distance →
       LeadsNearer before r.distances.items class distance
   leads_nearer class distance some at =

@@ -31,7 +31,7 @@ then_told T T' L L' N None mid new some to both (inl t) second = inl (stays T T'
 then_told T T' L L' N None mid new some to both (inr (none, lacks)) second =
     elim (subst (λ o. IsToldOr T' L' o new) none second) [ inl t ↦ inl (to lacks new t) | inr n ↦ inr (n.0, both lacks n.1) ]
 
--- no more edges are noted
+-- no further edge is noted
 pub as_it_was : (T : Option Edge → Type 0) (L : Type 0) (o : Option Edge) → (o ≡ None → L) → IsToldOr T L o o
 as_it_was T L None lacks = inr (refl, lacks refl)
 as_it_was T L (Some e) lacks = refl
@@ -123,14 +123,14 @@ module _ (x : Points) (usage : Usage) (next classes : ℕ) (old : List (Option E
 
 -- ---- one path after another
 
--- no path before this one leads on
+-- no path before this one leads to the class
 abbrev pub ClassLacks : Points → Usage → PathSet → ℕ → ℕ → ℕ → Type 0
 ClassLacks x usage behind n c d = (i : ℕ) → i < n → IsIn behind i → IsOfClass x d i → c ≡ usage.class → IsNotBehind x usage.point d
 
 abbrev pub PointLacks : Points → ℕ → PathSet → ℕ → ℕ → ℕ → Type 0
 PointLacks x point used n c d = (i : ℕ) → i < n → IsIn used i → IsOfClass x c i → IsNotBehind x point d
 
--- nor does a point before this one
+-- no path of a point before this one leads to the class
 abbrev pub SectionLacks : Points → ℕ → ℕ → ℕ → Type 0
 SectionLacks x n c d = (used bound : ℕ) → used < n → MakesAt x c d used bound → ⊥
 

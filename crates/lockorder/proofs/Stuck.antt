@@ -16,11 +16,11 @@ module _ (before : List BitSet) (listed : BitSet) (within : LeadsWithin before) 
   abbrev IsNew : ℕ → Type 0
   IsNew c = has_number listed c ≡ false
 
-  -- it isn't listed and has to come before c
+  -- the class `b` is not listed and has to come before `c`
   abbrev is_new_before : ℕ → ℕ → Bool
   is_new_before c b = has_edge before b c && not (has_number listed b)
 
-  -- a class that isn't listed has to come after another one
+  -- a class that is not listed has to come after another one
   new_before : (c : ℕ) → c < length before → IsNew c → (b : ℕ) × (b < length before) × InTable before b c × IsNew b
   new_before c lt new =
       elim (found_below (is_new_before c) (length before)) [
@@ -73,7 +73,7 @@ module _ (before : List BitSet) (listed : BitSet) (within : LeadsWithin before) 
     ];
   }
 
-  -- at most the given number of further classes
+  -- the trail is extended backwards by at most `fuel` classes
   go_back : (fuel c : ℕ) (cs : List ℕ) → length cs + fuel ≡ length before → IsTrail c cs → HasCycle before
   go_back zero c cs e t = absurd (omega (arith, e, no_more (c ∷ cs) (length before) t.distinct t.below))
   go_back (suc fuel) c cs e t =

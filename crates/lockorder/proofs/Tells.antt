@@ -22,7 +22,7 @@ use Rattle.lockorder.specs.Working.Tellings.{IsToldOr, IsToldHere, AreToldMore, 
 
 module _ (program : Typed) (k : ℕ) (x : Points) (makes : (c d used bound : ℕ) → MakesAt x c d used bound → Makes program k used bound c d)
     (made_at : (c d used bound : ℕ) → Makes program k used bound c d → MakesAt x c d used bound) where
-  -- none of the sections before this one makes it
+  -- none of the sections before this one makes the edge
   made_first : (c d used bound : ℕ) → IsNotMade program k c d → MakesFirstAt x c d used bound →
       MakesFirst program k used bound c d
   made_first c d used bound none m = record {
@@ -82,7 +82,7 @@ module _ (program : Typed) where
   made_of c d sections (Some f) e t is =
       let same : f ≡ e = same_Some f e is in subst (λ (y : written.Edge). (y.class ≡ c) × MakesFirst program y.section y.used y.bound c d) same t
 
-  -- the pairs with their edges, and what is known of those pairs
+  -- the pairs with their edges, and the claims on those pairs
   closed_pair : (sections c d : ℕ) (o : Option written.Edge) (x : ClassPair) → IsTold program sections c d o →
       Some x.edge ≡ o → x.next ≡ d → (classes_of_pair x ≡ (c, d)) × IsMadeFirst program x
   closed_pair sections c d o x t is next =

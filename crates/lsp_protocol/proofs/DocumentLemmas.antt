@@ -1,4 +1,4 @@
--- A text that is set or removed.
+-- A document that is set or removed.
 use Rattle.std.proofs.Common.{◌≡◌, ◌∙◌, ℕ, List, Bool, true, false, cond, Option, option_map, refl, ap, String, Global, BTreeMap, string_bytes, string_cmp, nat_cmp}
 use Rattle.std.proofs.lemmas.Map.Text.{btree_map_updates_text}
 use Rattle.std.specs.BTreeMap.{get_by_text, UpdatesBy}

@@ -49,7 +49,7 @@ whole (Some bytes) (Some now) (Some behind) n body (rest, is, header) is_body =
     let here : now ≡ rest = cc in
     (behind, refl, frame_after bytes (Some (n, rest)) header ∙ ap (body_of n) (sym here) ∙ body_there n now body behind is_body.0 is_body.1)
 
--- what is read after a header
+-- the result of reading the body after a header
 pub either : {V E : Type 0} (items : V → List ℕ) (first mid new : Option (List ℕ)) (n : ℕ) (r : Result (Option V) E) → TakesHeader first mid (Some n) →
     IfOk r (λ found. MatchOption found (IsShort mid n) (λ body. IsBody mid new n (items body))) →
     IfOk r (λ found. MatchOption found (NoFrameIn first) (λ body. TakesFrame first new (items body)))

@@ -8,7 +8,7 @@ use Rattle.lsp_protocol.specs.declared.fields.Field.TheVariants.{End, Wrong}
 use Rattle.lsp_protocol.specs.Frames.{first_field, after_field, header_of}
 use Rattle.lsp_protocol.specs.Working.Reading.{TakesField, TakesHeader, IsWithinHeader}
 
--- a header whose first line says this
+-- the result of reading a header whose first line is this field
 abbrev said : Field → ℕ → Option ℕ → List ℕ → Option (ℕ × List ℕ)
 said field lines stated bytes =
     after_field field stated (λ last. option_map (λ n. (n, drop_through 10 bytes)) last) (λ last. header_of lines last (drop_through 10 bytes))
@@ -45,7 +45,7 @@ ended (Some bytes) (Some now) new left lines (Some n) more (rest, is, same) take
     let at_now : header_of HEADER_LIMIT None bytes ≡ header_of left (Some n) now = same ∙ ap (header_of left (Some n)) (sym here) in
     (drop_through 10 now, takes.0, at_now ∙ header_said End left lines (Some n) now takes.1 more)
 
--- the line that was taken is none of a header
+-- the line that was taken is not a line of a header
 pub spoilt : (first old new : Option (List ℕ)) (left lines : ℕ) (stated : Option ℕ) → left ≡ suc lines →
     IsWithinHeader first old left stated → TakesField old new Wrong → TakesHeader first new None
 spoilt None old new left lines stated more within takes = tt

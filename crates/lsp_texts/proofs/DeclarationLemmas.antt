@@ -1,4 +1,4 @@
--- The declaration of one token more.
+-- The declaration of a name, with one more token read.
 use Rattle.std.proofs.Common.{◌≡◌, ◌∙◌, ℕ, suc, ◌+◌, List, [], ◌∷◌, ◌++◌, Option, refl, sym, ap, add-one}
 use Rattle.source.specs.declared.token.Token.{Token}
 use Rattle.lsp_texts.specs.Declarations.{declaration_of, declarations_in}

@@ -8,7 +8,7 @@ use Rattle.source.specs.Texts.{IsWithin, tok_at, end_at, AreTokens, at_end, toke
 use Rattle.lsp_texts.specs.Renames.{IsName}
 use Rattle.lsp_texts.specs.Working.LoneNames.{are_lone, is_as_long, is_end}
 
--- ---- what is one token is a name
+-- ---- a text that is one token is a name
 
 gap_parts : {text rest : List ℕ} → IsGap text rest → (w : List ℕ) × (text ≡ w ++ rest)
 gap_parts no_gap = ([], refl)

@@ -1,4 +1,4 @@
--- The place of one token more.
+-- The place of a byte, one token further.
 use Rattle.std.proofs.Common.{◌≡◌, ◌∙◌, ◌≤◌, ℕ, zero, suc, ◌+◌, ◌-◌, min, length, subst, inl, inr, add-zero, List, Option, Some, None, Bool, true, false, refl, sym, ap, add-one, arith}
 use Rattle.std.specs.Prelude.{if◌then◌else◌, ◌&&◌, ◌==◌, option_and_then}
 use Rattle.std.specs.Option.{is_some}
@@ -53,7 +53,7 @@ pub unchosen : (b : Bool) (x y z : Option ℕ) → b ≡ false → x ≡ z → x
 unchosen true x y z b is = cc
 unchosen false x y z b is = is
 
--- ---- behind the text's end
+-- ---- after the text's end
 
 ends_names : (b : Bool) (o : Option Symbol) → is_some (if b && false then o else None) ≡ false
 ends_names true o = refl

@@ -1,4 +1,4 @@
--- The references among one token more.
+-- The references to a name, with one more token read.
 use Rattle.std.proofs.Common.{◌≡◌, ◌∙◌, ℕ, suc, ◌+◌, Bool, List, [], ◌∷◌, ◌++◌, refl, sym, ap, add-one}
 use Rattle.std.specs.Prelude.{if◌then◌else◌}
 use Rattle.source.specs.declared.token.Token.{Token}

@@ -1,4 +1,4 @@
--- One token more.
+-- One more symbol.
 use Rattle.std.proofs.Common.{◌≡◌, ◌∙◌, ℕ, suc, ◌+◌, List, [], ◌++◌, Option, refl, sym, ap, add-one}
 use Rattle.std.specs.Option.{option_to_list}
 use Rattle.source.specs.declared.token.Token.{Token}

@@ -1,4 +1,4 @@
--- A name more in the tables.
+-- One more name in the tables.
 use Rattle.std.proofs.Common.{◌≡◌, ◌∙◌, ℕ, suc, ◌+◌, Bool, true, false, List, Option, Some, None, refl, sym, ap, add-one, arith, cond, Ordering, Less, Equal, Greater}
 use Rattle.std.specs.Prelude.{not, ◌||◌, if◌then◌else◌, ◌&&◌, ◌==◌}
 use Rattle.std.specs.Option.{is_some, option_or}
@@ -115,7 +115,7 @@ keeps tokens at tables were no_top no_inner =
     one_more tokens at tables tables were (λ q. unaffected (top_in tables q) (is_top_of tokens q at) at (not_top_of tokens at q no_top))
     (λ o q. unaffected (inner_in tables o q) (is_inner_of tokens o q at) at (no_inner o q))
 
--- a token that is no name
+-- a token that is not a name
 none_chosen : (b : Bool) (o : Option Symbol) → is_some (if b && false then o else None) ≡ false
 none_chosen true o = refl
 none_chosen false o = refl
@@ -129,7 +129,7 @@ pub unnamed_is_no_inner : (tokens : List Token) (at : ℕ) (o : ℕ) (q : List �
 unnamed_is_no_inner tokens at o q none =
     ap (λ t. ((is_some t && not (is_top tokens at)) && is_declared tokens at) && is_number o (owner_at tokens at) && is_text q (text_at tokens at)) (sym none)
 
--- a name that is no inner one
+-- a name that is not an inner one
 pub not_inner_of : (tokens : List Token) (at : ℕ) (o : ℕ) (q : List ℕ) → is_inner tokens at ≡ false → is_inner_of tokens o q at ≡ false
 not_inner_of tokens at o q fails = ap (λ b. b && is_number o (owner_at tokens at) && is_text q (text_at tokens at)) fails
 

@@ -137,8 +137,8 @@ member tokens text holder =
 unfoldable pub holder_at : List Token → ℕ → ℕ
 holder_at tokens at = if is_close_bracket (sign_at tokens (at - 2)) && is_open_bracket (sign_at tokens (at - 4)) then at - 5 else at - 2
 
--- it means a name of the top level, whatever is declared in the enclosing declaration: a type, or what no braces enclose and
--- declares nothing
+-- it means a name of the top level, whatever is declared in the enclosing declaration: a type, or what no braces
+-- enclose and declares nothing
 abbrev pub is_outer : List Token → ℕ → Bool
 is_outer tokens at = is_ref (word_at tokens (at - 1)) || ((depth_at tokens at == 0) && not (is_inner tokens at))
 

@@ -19,7 +19,8 @@ whole_edit_data text new =
 abbrev pub whole_data : List ℕ → List ℕ → Data
 whole_data text new = array (items_of (whole_edit_data text new ∷ []))
 
--- no edit of a text that is its own layout, otherwise that of the whole text; `null` where no layout of the text is UTF-8
+-- no edit of a text that is its own layout, otherwise that of the whole text; `null` where no layout of the text is
+-- UTF-8
 pub data AreEditsOf (text : List ℕ) : Data → Type 0 where
   kept : HasLayout text text → AreEditsOf text (array no_items)
   changed : {out : List ℕ} → HasLayout text out → (out ≡ text → ⊥) → AreEditsOf text (whole_data text out)

@@ -3,7 +3,8 @@ use Rattle.std.specs.Prelude.{ℕ, zero, suc, ◌+◌, ◌-◌, Bool, false, not
 use Rattle.std.specs.List.{slice_get}
 use Rattle.lsp_texts.specs.declared.walking.Position.{Position}
 
--- the number of units that begin with a byte: two for a character of four bytes, none for a continuation byte (`10......`)
+-- the number of units that begin with a byte: two for a character of four bytes, none for a continuation byte
+-- (`10......`)
 abbrev pub units_of : ℕ → ℕ
 units_of b = if nat_le 128 b && nat_lt b 192 then 0 else if nat_le 240 b then 2 else 1
 

@@ -10,8 +10,8 @@ abbrev pub are_same : Option ℕ → Option ℕ → Bool
 are_same None other = is_none other
 are_same (Some n) other = is_number n other
 
--- the token at `at` may have the meaning of the declared one: anywhere, where that one is of the top level, otherwise in its
--- enclosing declaration; or the token is of the top level itself
+-- the token at `at` may have the meaning of the declared one: anywhere, where that one is of the top level, otherwise
+-- in its enclosing declaration; or the token is of the top level itself
 abbrev pub may_meet : List Token → ℕ → ℕ → Bool
 may_meet tokens declared at = is_top tokens at || is_top tokens declared || are_same (owner_at tokens declared) (owner_at tokens at)
 

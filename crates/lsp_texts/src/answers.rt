@@ -44,7 +44,8 @@ fn no_locations(alloc: Global) -> Value
     Value::Array(Vec::new(alloc))
 }
 
-/// The places of the names that mean the same as the name at `place`; `itself` says whether the declaring name is included.
+/// The places of the names that mean the same as the name at `place`; `itself` says whether the declaring name is
+/// included.
 fn references_in(
     alloc: Global,
     document: &Linked<'_>,
@@ -61,8 +62,8 @@ fn references_in(
     document.locations(alloc, &found)
 }
 
-/// The place where the name at a position is declared: a `Location`, or `null` where no declared name stands there, or the
-/// text has a lexical fault.
+/// The place where the name at a position is declared: a `Location`, or `null` where no declared name stands there, or
+/// the text has a lexical fault.
 ///
 /// # Errors
 ///
@@ -86,8 +87,9 @@ pub fn definition(alloc: Global, asked: &DocumentPosition<'_>) -> Result<Value, 
     Ok(told)
 }
 
-/// The places of the names that mean the same as the name at a position: a list of `Location`s, in the order of the text,
-/// with or without the declaration. It is empty where no declared name stands there, or the text has a lexical fault.
+/// The places of the names that mean the same as the name at a position: a list of `Location`s, in the order of the
+/// text, with or without the declaration. It is empty where no declared name stands there, or the text has a lexical
+/// fault.
 ///
 /// # Errors
 ///

@@ -125,9 +125,9 @@ fn class(alloc: Global, tokens: &[Token], at: usize) -> Result<String, NoMemory>
     Ok(text)
 }
 
-/// The class of the lock that belongs to the declaration of the token `declared`, which declares the lock or is protected by
-/// it: `G` for a global lock, `S.l` for a lock of a struct; none, where the declaration does not have one. `found` has the
-/// declarations of the text's names.
+/// The class of the lock that belongs to the declaration of the token `declared`, which declares the lock or is
+/// protected by it: `G` for a global lock, `S.l` for a lock of a struct; none, where the declaration does not have one.
+/// `found` has the declarations of the text's names.
 ///
 /// # Errors
 ///

@@ -60,9 +60,9 @@ fn edits_to(alloc: Global, text: &str, layout: &[u8]) -> Result<Value, AllocErro
     }
 }
 
-/// The edits that bring `text` into its layout: a list of the protocol's `TextEdit`. It is empty for a text that is its own
-/// layout, and otherwise has one edit of the whole text. The answer is `null` for a text that does not have a layout, since
-/// it has a lexical or a syntax fault, or whose layout is not UTF-8.
+/// The edits that bring `text` into its layout: a list of the protocol's `TextEdit`. It is empty for a text that is its
+/// own layout, and otherwise has one edit of the whole text. The answer is `null` for a text that does not have a
+/// layout, since it has a lexical or a syntax fault, or whose layout is not UTF-8.
 ///
 /// # Errors
 ///

@@ -124,8 +124,8 @@ impl Line<'_> {
     }
 }
 
-/// The declaration of the name that the token `declared` is, on one line: from its first word on, without its value, its
-/// body and its last sign.
+/// The declaration of the name that the token `declared` is, on one line: from its first word on, without its value,
+/// its body and its last sign.
 ///
 /// # Errors
 ///

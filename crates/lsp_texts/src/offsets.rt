@@ -6,8 +6,8 @@ ghost use Rattle.lsp_texts.specs.Working.Steps.{step};
 
 use crate::walking::{Position, ends_line, next_of, units_of};
 
-/// Whether a position that is `units` further in its line lies at `byte`: the line ends at it, or the byte's character has
-/// that unit.
+/// Whether a position that is `units` further in its line lies at `byte`: the line ends at it, or the byte's character
+/// has that unit.
 fn stops(units: u64, byte: u8) -> bool
     ensures { result ≡ positions.stops units byte }
 {
@@ -31,8 +31,8 @@ fn further(lines: u64, units: u64, byte: u8, next: Option<u8>) -> Option<(u64, u
     Some((0, units - units_of(byte)))
 }
 
-/// The byte at a position: the character of its line that has the unit, or the line's end, where the line has fewer units;
-/// the text's end, where the text has fewer lines.
+/// The byte at a position: the character of its line that has the unit, or the line's end, where the line has fewer
+/// units; the text's end, where the text has fewer lines.
 pub fn offset_of(text: &[u8], position: Position) -> usize
     ensures { result ≡ positions.offset_of text.now position }
 {

@@ -64,7 +64,8 @@ impl<'a> Declared<'a> {
     }
 }
 
-/// Whether what the token `declared` declares can't be named `text`, since that name already stands where both may be meant.
+/// Whether what the token `declared` declares can't be named `text`, since that name already stands where both may be
+/// meant.
 pub fn is_taken(tokens: &[Token], declared: usize, text: &str) -> bool
     ensures { result ≡ taken.is_taken tokens.now declared text.now }
 {

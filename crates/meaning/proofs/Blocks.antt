@@ -11,7 +11,7 @@ use Rattle.meaning.proofs.Rows.{effect_if, effect_if_else, effect_while}
 use Rattle.core_lang.specs.Meaning.{State, Flow, GoesOn, Helpers, given, choose, after, turns, truth_of, effect_by}
 use Rattle.core_lang.specs.Meaning.{sequence_by}
 
--- the truth that the code found is the one at the state
+-- the truth value that the code finds is that of the condition in this state
 found_truth : (c : Condition) (shape : Shape) (s : State) (locals heap : List Value) (t b : Bool) →
     locals ≡ s.locals → heap ≡ s.heap → Ok t ≡ truth_of c shape locals heap → t ≡ b → truth_of c shape s.locals s.heap ≡ Ok b
 found_truth c shape s locals heap t b l h e is =

@@ -33,7 +33,7 @@ gives_none (Ok values) f whole is e = absurd is
 gives_none (Err y) (Trap t) whole is e = subst (λ z. Gives (Err z) whole) (sym is) e
 gives_none (Err y) Wrong whole is e = subst (λ z. Gives (Err z) whole) (sym is) e
 
--- how a run ends does not depend on the locals that are left
+-- the end of a run does not depend on the locals that it leaves
 pub concludes_with : (r : Result Outcome Halt) (s : State) (locals : List Value) (run run' : Run) → run ≡ run' →
     Concludes r s run →
     Concludes r (record s { locals = locals }) run'
@@ -43,7 +43,7 @@ concludes_with (Err halt.Beyond) s locals run run' same e = sym same ∙ e
 concludes_with (Err halt.Wrong) s locals run run' same e = sym same ∙ e
 concludes_with (Err halt.NoMemory) s locals run run' same e = e
 
--- the run of a helper that is there
+-- the run of a helper that the program has
 pub helper_run : (depth : ℕ) (shape : Shape) (n helper : ℕ) (arguments heap : List Value) (prints : List ℤ) (section : Section) (locals : List Value) →
     depth ≢ 0 → slice_get shape.helpers.items helper ≡ Some section →
     locals ≡ arguments ++ map default_local (drop (length arguments) section.locals.items) →

@@ -1,4 +1,4 @@
--- The heap that a call of a well-formed program leaves on a heap of it.
+-- A call of a well-formed program leaves a typed heap typed.
 use Rattle.std.proofs.Common.{◌≡◌, ℕ, List, Option, Some, None, refl, sym, ap, subst}
 use Rattle.core_lang.specs.declared.value.Value.{Value}
 use Rattle.core_lang.specs.declared.tree.Section.{Section}

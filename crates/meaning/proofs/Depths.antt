@@ -10,7 +10,7 @@ use Rattle.core_lang.specs.declared.tree.Section.{Section}
 abbrev pub size_of : Section → ℕ
 size_of section = 8 * most size-Stmt section.body.items
 
--- of all helpers
+-- the sizes of all helpers together
 abbrev pub sizes_of : List Section → ℕ
 sizes_of [] = 0
 sizes_of (x ∷ xs) = size_of x + sizes_of xs

@@ -12,7 +12,7 @@ use Rattle.layout.specs.LockCells.{cells_from}
 use Rattle.locks.specs.Locks.{same_lock}
 use Rattle.moved_cells.specs.Working.Grants.{numbered, values_on, if_there}
 
--- each is at least n, and greater than those before it
+-- each number is at least `n`, and greater than those before it
 abbrev pub Rise : ℕ → List ℕ → Type 0
 Rise n [] = ⊤
 Rise n (c ∷ cs) = (n ≤ c) × Rise (c + 1) cs

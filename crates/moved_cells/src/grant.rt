@@ -7,7 +7,8 @@ use core_lang::value::Value;
 use locks::lock::Lock;
 use std::marker::Model;
 
-/// A lock that a section holds, with its cells. It can be neither copied nor dropped: only [`Grant::into_parts`] ends it.
+/// A lock that a section holds, with its cells. It can be neither copied nor dropped: only [`Grant::into_parts`] ends
+/// it.
 pub struct Grant {
     lock: Lock,
     cells: Cells,

@@ -1,4 +1,4 @@
--- Sections whose calls touch different cells can be run in either order.
+-- Calls of sections that touch different cells can be run in either order.
 use Rattle.std.proofs.Common.{◌≡◌, ℕ, suc, List, [], ◌∷◌, Some, None, Option, Result, Ok, Err, Bool, true}
 use Rattle.std.proofs.Common.{false, refl, sym, ap, ◌∙◌, subst}
 use Rattle.std.specs.Prelude.{slice_get, map, drop, length}
@@ -22,7 +22,7 @@ use Rattle.outcomes.specs.IndependenceLaws.{AgreeOn, EndsAlike, In, OtherCellsCh
 use Rattle.outcomes.specs.IndependenceLaws.{CallsApartCommute}
 use Rattle.outcomes.proofs.Frame.{AreAlike, LeadAlike, value_both, sequence_both}
 
--- whatever the heaps
+-- a run that reads only some cells and writes only some cells, on each heap
 abbrev pub IsFramed : (ℕ → Type 0) → (ℕ → Type 0) → (List Value → Run) → Type 0
 IsFramed Read Write run =
     (heap heap' : List Value) (finished : Finished) → AgreeOn Read heap heap' → AgreeOn Write heap heap' →
@@ -36,7 +36,7 @@ beyond_not_over : (finished : Finished) → Beyond_turns ≡ Over finished → �
 beyond_not_over finished e = cc
 
 module _ (shape : Shape) (arguments : List Value) (Read Write : ℕ → Type 0) (heap heap' : List Value) where
-  -- where two runs have come to
+  -- the ends of two runs are alike
   abbrev EndAlike : Run → Run → Type 0
   EndAlike x y = (finished : Finished) → x ≡ Over finished → EndsAlike Read Write (λ _. y) heap heap' finished
 
@@ -146,7 +146,7 @@ module _ (run run' : List Value → Run) (reads writes reads' writes' : ℕ → 
   apart_writes : (c : ℕ) → In writes c → In writes' c → ⊥
   apart_writes c w w' = not_in writes c (apart' c w').1 w
 
-  -- what comes of the other order
+  -- the results in the other order
   pub record Turned (heap : List Value) (first second : Finished) : Type 0 where
     pub sooner : Finished
     pub later : Finished
@@ -163,7 +163,7 @@ module _ (run run' : List Value → Run) (reads writes reads' writes' : ℕ → 
       -- the second run finds its cells as they were before the first
       let x = framed' first.heap heap second (λ c r. alone.kept c (λ w. apart_reads' c r w))
       (λ c w'. alone.kept c (λ w. apart_writes c w w')) e' in
-      -- and the first finds its own as they were before the second
+      -- the first run finds its cells as they were before the second
       let y = framed heap x.other.heap first (λ c r. sym (x.kept' c (λ w'. apart_reads c r w')))
       (λ c w. sym (x.kept' c (λ w'. apart_writes c w w'))) e in
       let same : (c : ℕ) → slice_get y.other.heap c ≡ slice_get second.heap c = λ c.
@@ -193,7 +193,7 @@ call_framed program n call Read Write None is = none_framed Read Write
 call_framed program n call Read Write (Some section) is = section_framed section program.shape n call.arguments Read
     Write (is section refl)
 
--- calls whose runs are so
+-- calls whose runs are framed commute
 pub framed_commute : (program : Typed) (n : ℕ) (a b : Invocation) (reads writes reads' writes' : ℕ → Bool) →
     IsFramed (In reads) (In writes) (run_call program n a) → IsFramed (In reads') (In writes') (run_call program n b) →
     WritesApart writes reads' writes' → WritesApart writes' reads writes → Commute program n a b

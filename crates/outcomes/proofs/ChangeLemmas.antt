@@ -54,7 +54,7 @@ pub length-applied : (changes : List Change) (cells : List Value) → length (ap
 length-applied [] cells = refl
 length-applied (c ∷ changes) cells = length-applied changes (slice_set cells c.cell c.value) ∙ length-set cells c.cell c.value
 
--- of one cell, if it is changed
+-- the change of one cell, if its value differs
 abbrev one_change : Bool → ℕ → Value → List Change
 one_change b k c = cond b [] (record { cell = k; value = c } ∷ [])
 
@@ -74,7 +74,7 @@ below_step : (opening cells : List Value) (k j : ℕ) →
 below_step opening cells k j =
     ap (λ (l : List Value). held l j) (applied-append (changes_below opening cells k) (change_at opening cells k) opening)
 
--- the cells from k on have their opening values
+-- the cells from `k` on have their opening values
 kept_above : (opening cells : List Value) (k j : ℕ) → k ≤ j →
     held (applied (changes_below opening cells k) opening) j ≡ held opening j
 kept_above opening cells zero j few = refl
@@ -83,7 +83,7 @@ kept_above opening cells (suc k) j few =
     ∙ made_elsewhere (same_value (held opening k) (held cells k)) k j (held cells k) (applied (changes_below opening cells k) opening) (λ e. omega arith)
     ∙ kept_above opening cells k j (omega arith)
 
--- those before it what they hold
+-- the cells before `k` have the values of `cells`
 changed_below : (opening cells : List Value) (k j : ℕ) → k ≤ length opening → j < k →
     held (applied (changes_below opening cells k) opening) j ≡ held cells j
 changed_below opening cells zero j few below = absurd (omega arith)
@@ -164,11 +164,11 @@ among_cells (w ∷ writes) cell among =
 
 -- ---- the cells that were written, in order
 
--- each of the first `i` written cells that exists is below a cell
+-- each of the first `i` written cells that exists is less than `below`
 abbrev pub ArePassed : List ℕ → ℕ → ℕ → ℕ → Type 0
 ArePassed written n i below = (p : ℕ) → p < i → get_or written p 0 < n → get_or written p 0 < below
 
--- a cell between those passed and the next one was not written
+-- a cell between those passed and the next written one was not written
 not_written : (written : List ℕ) (n i below cell j : ℕ) → ArePassed written n i below →
     ((p : ℕ) → i ≤ p → p < length written → cell ≤ get_or written p 0) → cell ≤ n → below ≤ j → j < cell → Contains written j → ⊥
 not_written written n i below cell j passed next few from under there =
@@ -192,7 +192,7 @@ same_between first then opening cells written i below cell among among' back pas
 abbrev AreBack : List (ℕ × Value) → List (ℕ × Value) → List Value → List Value → Type 0
 AreBack first then opening cells = undone first (undone then cells) ≡ opening
 
--- the next of them is passed
+-- the next written cell is passed
 passed_more : (written : List ℕ) (n i below more cell : ℕ) → ArePassed written n i below → cell ≡ get_or written i 0 → below ≤ more →
     (cell < n → cell < more) → ArePassed written n (i + 1) more
 passed_more written n i below more cell passed is few own p before there =
@@ -243,7 +243,7 @@ pub change_none : (opening cells : List Value) (cell : ℕ) (a b : Value) → a 
     change_at opening cells cell ≡ []
 change_none opening cells cell a b is is' same = no_change opening cells cell (sym is' ∙ sym same ∙ is)
 
--- ---- what is seen
+-- ---- what an observer sees
 
 pub seen_long : (asked : Cells) (xs ys : List Value) → length xs ≡ length ys → length (seen_cells asked xs) ≡ length (seen_cells asked ys)
 seen_long Every xs ys same = same

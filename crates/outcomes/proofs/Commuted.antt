@@ -19,9 +19,9 @@ use Rattle.outcomes.proofs.Leading.{next_within}
 use Rattle.outcomes.proofs.OrderParts.{begins, no_order, NoneIn}
 use Rattle.outcomes.proofs.Whole.{both_left}
 
--- ---- what is done
+-- ---- the numbers of calls that are done
 
--- another thread's next call stays its next one
+-- the next call of another thread stays the next one
 next_stays : (program : Typed) (done : List ℕ) (t u : ℕ) → u ≢ t → next_call program (one_more done t) u ≡ next_call program done u
 next_stays program done t u other = ap (call_at program u) (get_or-set_other done t u (get_or done t 0 + 1) 0 other)
 
@@ -82,7 +82,7 @@ answers_in_turn program done t u a b answers of_t of_u other next_t next_u =
     ∙ sym (ap (λ (k : ℕ). set_answer (set_answer answers nu of_u) (call_number program t k) of_t)
     (get_or-set_other done u t (get_or done u 0 + 1) 0 other))
 
--- calls of two groups lead to the same place in either order
+-- calls of two groups lead to the same state in either order
 pub in_turn : (program : Typed) (groups : List ℕ) (n : ℕ) → AreIndependent program groups →
     (done : List ℕ) (left : Left) (t u : ℕ) (order done' : List ℕ) (left' : Left) → slice_index groups u ≢ slice_index groups t →
     Leads program n done left (t ∷ u ∷ order) done' left' → Leads program n done left (u ∷ t ∷ order) done' left'
@@ -123,7 +123,7 @@ heads u v us vs is = (cc, cc)
 nothing_first : (u : ℕ) (us : List ℕ) → u ∷ us ≡ [] → ⊥
 nothing_first u us is = cc
 
--- what begins with a call of another thread can begin with this one's
+-- an order that begins with another thread's call can begin with this thread's call
 earlier : (program : Typed) (left : ℕ) (done : List ℕ) (u t : ℕ) (order : List ℕ) (b : Invocation) → u ≢ t →
     next_call program done u ≡ Some b → Contains (orders_of program left (one_more done u)) (t ∷ order) →
     Contains (orders_of program (suc left) done) (t ∷ u ∷ order)
@@ -143,7 +143,7 @@ earlier program (suc left) done u t order b other next_u there =
     among_begun program (orders_of program (suc left)) done count t parts.call (u ∷ order) (next_within program done t parts.call next_t) next_t
     (among_begun program (orders_of program left) (one_more done t) count u b order (next_within program (one_more done t) u b next_u') next_u' rest)
 
--- the thread's call comes first, and leads to the same place
+-- this thread's call can come first, and the order leads to the same state
 pub record IsEarlier (program : Typed) (n left : ℕ) (done before : List ℕ) (t : ℕ) (behind : List ℕ) : Type 0 where
   pub there : Contains (orders_of program left done) (t ∷ before ++ behind)
   pub leads : (l : Left) (done' : List ℕ) (left' : Left) → Leads program n done l (t ∷ before ++ behind) done' left' →

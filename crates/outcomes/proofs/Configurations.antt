@@ -52,7 +52,7 @@ unfolding same_counts
 counts_same [] = refl
 counts_same (x ∷ xs) = ap (λ b. cond b (same_counts xs xs) false) ((Decides-eqb x x).1 refl) ∙ counts_same xs
 
--- the sum over a layer's states of those that pass a test
+-- the number of orders that lead to a state, if the state passes the test, and otherwise 0
 unfoldable pub passing : (List ℕ → Option Left → Bool) → Reached → ℕ
 passing test s = cond (test s.done (Some s.left)) s.orders 0
 
@@ -137,7 +137,7 @@ unfoldable pub IsLedBelow : Typed → ℕ → Bool → ℕ → Configuration →
 IsLedBelow program n answers depth configuration =
     (order : List ℕ) × (length order < depth) × Leads program n (none_done program) (opening_left program answers) order configuration.done configuration.left
 
--- so do they to each of these, and no two are equal
+-- the orders lead to each of the configurations, and no two configurations are equal
 pub record AreLedBelow (program : Typed) (n : ℕ) (answers : Bool) (depth : ℕ) (configurations : List Configuration) : Type 0 where
   pub each : All (IsLedBelow program n answers depth) configurations
   pub apart : AllPairs (λ (a b : Configuration). a ≢ b) configurations
@@ -166,7 +166,7 @@ less_or_not zero (suc b) = inl (omega arith)
 less_or_not (suc a) zero = inr (omega arith)
 less_or_not (suc a) (suc b) = elim (less_or_not a b) [ inl less ↦ inl (omega arith) | inr not ↦ inr (omega arith) ]
 
--- what stands in two lists, one after the other, stands in one of them
+-- an index of two lists appended is an index of one of them
 stands_in : (xs ys : List Configuration) (k : ℕ) (d : Configuration) → k < length (xs ++ ys) →
     ((k < length xs) × (get_or (xs ++ ys) k d ≡ get_or xs k d)) ⊎ ((length xs ≤ k) × (k - length xs < length ys) × (get_or (xs ++ ys) k d ≡ get_or ys (k - length xs) d))
 stands_in xs ys k d within =
@@ -197,7 +197,7 @@ layer_led program n answers depth trail layer good k d within =
     subst (IsLedBelow program n answers (depth + 1)) (sym (layer_place layer k d within))
     (order_at trail (at layer k).first, (let long = one.long in omega arith), one.leads)
 
--- of fewer calls, or of other cells
+-- a configuration of fewer calls, or of other cells, is another one
 earlier_apart : (program : Typed) (n : ℕ) (answers : Bool) (depth : ℕ) (trail : List (List ℕ)) (s : Reached) (configuration : Configuration) → IsLedBelow program n answers depth configuration → IsGood program n depth (opening_left program answers) trail s →
     configuration ≢ configuration_of s
 unfolding IsLedBelow
@@ -243,7 +243,7 @@ configuration_at done left = record { done = done; left = left }
 place_is : (a b : List ℕ) (c d : Left) → a ≡ b → c ≡ d → configuration_at a c ≡ configuration_at b d
 place_is a b c d first second = ap (λ (x : List ℕ). configuration_at x c) first ∙ ap (configuration_at b) second
 
--- with those of a layer
+-- the configurations so far, with those of one more layer
 pub led_more : (program : Typed) (n : ℕ) (answers : Bool) (depth : ℕ) (trail : List (List ℕ)) (layer : List Reached) (configurations : List Configuration) →
     AreGood program n depth (opening_left program answers) trail layer →
     AreLedBelow program n answers depth configurations → AreLedBelow program n answers (depth + 1) (configurations ++ map configuration_of layer)
@@ -311,7 +311,7 @@ has_places law settled once program n answers depth count trail layer configurat
     let same : length ys ≡ length layer = length-map layer configuration_of in
     (configurations ++ ys, all_places law program n answers depth (configurations ++ ys) all (places_more settled once program n answers depth trail layer configurations good sums before), omega arith)
 
--- as many configurations as states so far, if not all are known
+-- there are as many configurations as states so far, if not all are known
 pub has_some_places : OverIsWhole →
     (program : Typed) (n : ℕ) (answers : Bool) (depth count : ℕ) (trail : List (List ℕ)) (layer : List Reached) (configurations : List Configuration) →
     AreGood program n depth (opening_left program answers) trail layer →

@@ -72,7 +72,7 @@ some_before : (before : Option ℕ) (call : Option Invocation) (t u : ℕ) → b
 some_before (Some v) call t u is = is
 some_before None call t u is = cc
 
--- it stays the first among more of them
+-- the first thread with a call left stays the first among more threads
 pub ready_stays : (program : Typed) (done : List ℕ) (count t : ℕ) (call : Invocation) → first_ready program done t ≡ None →
     next_call program done t ≡ Some call → t < count → first_ready program done count ≡ Some t
 ready_stays program done zero t call none next within = absurd (omega (arith, within))
@@ -86,7 +86,7 @@ ready_stays program done (suc c) t call none next within =
 
 -- ---- sums
 
--- with one more thread
+-- one more thread of the group
 pub group_more : (search : Search) (groups : List ℕ) (group : ℕ) (s : Reached) (t : ℕ) (a b c : Work) →
     GoesOn search a b (by_group search groups group s t) → GoesOn search b c (by_thread search s t) → slice_index groups t ≡ group →
     GoesOn search a c (by_group search groups group s (t + 1))
@@ -106,7 +106,7 @@ not_same a b other = elim (true_or_false (nat_eq a b)) [ inl is ↦ absurd (othe
 plus_none : (a : ℕ) → a + 0 ≡ a
 plus_none a = omega arith
 
--- of another group
+-- a thread of another group
 pub group_past : (search : Search) (groups : List ℕ) (group : ℕ) (s : Reached) (t : ℕ) (a b : Work) →
     GoesOn search a b (by_group search groups group s t) → slice_index groups t ≢ group → GoesOn search a b (by_group search groups group s (t + 1))
 group_past search groups group s t a b first other =
@@ -121,7 +121,7 @@ group_past search groups group s t a b first other =
           ∙ plus_none (by_group search groups group s t f left)));
     }
 
--- with the calls from one more state
+-- the calls from one more state
 pub groups_more : (search : Search) (groups : List ℕ) (states : List Reached) (k : ℕ) (s : Reached) (a b c : Work) → k < length states →
     at states k ≡ s → GoesOn search a b (reduced_from_all search groups (take k states)) → GoesOn search b c (reduced_from search groups s) →
     GoesOn search a c (reduced_from_all search groups (take (k + 1) states))
@@ -130,7 +130,7 @@ groups_more search groups states k s a b c within is first second =
     (λ f left. (let g : Reached → ℕ = λ r. reduced_from search groups r f left in
     sum_by_more g states k nowhere within ∙ ap (λ (r : Reached). sum_by g (take k states) + g r) is))
 
--- a thread of the group adds its part
+-- a thread of the group adds its part to the sum
 group_least : (search : Search) (groups : List ℕ) (group : ℕ) (s : Reached) (count t : ℕ) (f : Summand) (left : ℕ) → t < count →
     slice_index groups t ≡ group → by_thread search s t f left ≤ by_group search groups group s count f left
 group_least search groups group s zero t f left within same = absurd (omega (arith, within))
@@ -144,7 +144,7 @@ group_least search groups group s (suc c) t f left within same =
       | inr other ↦ (let rest = group_least search groups group s c t f left (omega (arith, within, other)) same in omega (arith, rest))
     ]
 
--- and so a state of the layer
+-- a state of the layer adds its part to the sum
 layer_least : (search : Search) (groups : List ℕ) (layer : List Reached) (k u t : ℕ) (f : Summand) (left : ℕ) → k < length layer →
     first_ready search.program.now (at layer k).done (length search.program.now.threads.items) ≡ Some u →
     t < length search.program.now.threads.items → slice_index groups t ≡ slice_index groups u →
@@ -158,9 +158,9 @@ layer_least search groups layer k u t f left within first inside same =
     ap (λ (o : Option ℕ). by_first search groups (at layer k) o f left) first in
     omega (arith, one, own, here)
 
--- ---- the states that are made
+-- ---- the states that are reached
 
--- the call of a thread, made in a state, leads to one of these
+-- the call of a thread in a state leads to one of these states
 record IsMade (search : Search) (states : List Reached) (s : Reached) (t : ℕ) (call : Invocation) : Type 0 where
   finished : Finished
   over : run_call search.program.now search.turns call s.left.cells ≡ Over finished
@@ -174,7 +174,7 @@ more_than_none : (b : Bool) (k : ℕ) → 0 < cond b k 0 → 0 < k
 more_than_none true k more = more
 more_than_none false k more = absurd (omega (arith, more))
 
--- if the call isn't over, the order that it begins has no end
+-- the orders that begin with a call that does not end have no end
 stuck_sum : (program : Typed) (n : ℕ) (done : List ℕ) (left : Left) (t : ℕ) (call : Invocation) (r : Run) → next_call program done t ≡ Some call →
     run_call program n call left.cells ≡ r →
     left_by program done (t ∷ []) left.answers (go_on r left.cells (call ∷ calls_of program (one_more done t) [])
@@ -239,7 +239,7 @@ made_by_run search states s t call Beyond_turns some next runs least =
 made_by_run search states s t call Gone_astray some next runs least =
     absurd (not_stuck search states s t some (stuck_sum search.program.now search.turns s.done s.left t call Gone_astray next runs refl) (least (tested unsettled)))
 
--- a layer's group's calls lead to the next layer
+-- the calls of a group in a layer lead to the next layer
 made_there : (search : Search) (groups : List ℕ) (old new : Work) (layer : List Reached) (k u t : ℕ) (call : Invocation) →
     GoesOn search old new (reduced_from_all search groups layer) → old.next.states ≡ [] → k < length layer → 0 < (at layer k).orders →
     first_ready search.program.now (at layer k).done (length search.program.now.threads.items) ≡ Some u →
@@ -270,7 +270,7 @@ covers_first search layer is =
       leads = λ done' left' leads. leads;
     })
 
--- an order that goes by way of a layer goes by way of the next one
+-- an order through a layer goes through the next layer
 covers_one : (search : Search) (groups : List ℕ) (old new : Work) (trail : List (List ℕ)) (layer : List Reached) (depth left : ℕ) (order : List ℕ) →
     AreIndependent search.program.now groups → GoesOn search old new (reduced_from_all search groups layer) → old.next.states ≡ [] →
     AreGood search.program.now search.turns depth (start_of search) trail layer →
@@ -328,7 +328,7 @@ covers_more search groups old new trail layer depth left independent goes empty 
 
 -- ---- every end is reported
 
--- calls that lead somewhere are settled, and leave that
+-- calls that lead to a state are settled, and leave that state
 leads_end : (program : Typed) (n : ℕ) (done : List ℕ) (left : Left) (order done' : List ℕ) (left' : Left) →
     Leads program n done left order done' left' → end_from program n done left order ≡ Some left'
 leads_end program n done left [] done' left' leads = ap (λ l. Some l) leads.1

@@ -50,7 +50,7 @@ some_within [] (suc k) more = absurd (omega arith)
 some_within (x ∷ xs) zero more = omega arith
 some_within (x ∷ xs) (suc k) more = let rest = some_within xs k more in omega arith
 
--- the thread of a number has as many calls
+-- the calls of a thread, by its number
 pub calls_of_one : (ts : List Thread) (k : ℕ) (t : Thread) → slice_get ts k ≡ Some t →
     calls_of_thread ts k ≡ length t.calls.items
 calls_of_one [] k t is = cc
@@ -62,7 +62,7 @@ calls_at [] k = refl
 calls_at (t ∷ ts) zero = refl
 calls_at (t ∷ ts) (suc k) = calls_at ts k
 
--- a thread that has a call left has more than are done
+-- a thread with a call left has more calls than are done
 pub more_calls : (program : Typed) (done : List ℕ) (thread : ℕ) (call : Invocation) →
     next_call program done thread ≡ Some call → get_or done thread 0 < calls_of_thread program.threads.items thread
 more_calls program done thread call next =
@@ -70,7 +70,7 @@ more_calls program done thread call next =
     let same = calls_at program.threads.items thread in
     omega (arith, less, same)
 
--- the calls of the threads before one, and its own, are no more than all
+-- the calls of the threads up to one are no more than those of all threads
 pub calls_before : (ts : List Thread) (k : ℕ) → calls_together (take k ts) + calls_of_thread ts k ≤ calls_together ts
 calls_before [] zero = omega arith
 calls_before [] (suc k) = omega arith
@@ -110,7 +110,7 @@ done_within search walk thread is =
     let same = calls_at search.program.now.threads.items thread in
     omega (arith, few, same)
 
--- it is of none before the next thread
+-- the call is not one of a thread before the next one
 pub from_next : (search : Search) (walk : Walk) (thread number left : ℕ) → IsWalk search walk →
     IsFrom search.program.now.threads.items walk.done.items thread number →
     left + get_or walk.done.items thread 0 ≡ calls_of_thread search.program.now.threads.items thread → left ≤ number →
@@ -131,7 +131,7 @@ from_next search walk thread number left is from of few =
     let same : thread + 1 ≡ suc thread = omega arith in
     rw same next
 
--- or of this one, which then has a call left
+-- the call is one of this thread, which then has a call left
 pub is_left : (search : Search) (walk : Walk) (thread number left : ℕ) → IsWalk search walk →
     left + get_or walk.done.items thread 0 ≡ calls_of_thread search.program.now.threads.items thread → number < left →
     HasCallLeft search.program.now walk.done.items thread

@@ -1,4 +1,5 @@
--- The effect of a body depends only on the cells that it may read or write, and it changes only those that it may write.
+-- The effect of a body depends only on the cells that it may read or write, and it changes only those that it may
+-- write.
 use Rattle.std.proofs.Common.{◌≡◌, ℕ, zero, suc, List, [], ◌∷◌, ◌++◌, Some, None, Option, Result, Ok, Err, Bool, true}
 use Rattle.std.proofs.Common.{false, refl, sym, ap, ◌∙◌, subst, ℤ, ◌≢◌}
 use Rattle.std.specs.Prelude.{slice_get, slice_set, not, length, nat_lt, if◌then◌else◌, ⊤}
@@ -34,7 +35,7 @@ with_alike : {A B : Type 0} (r : Result A Failure) (f g : A → Result B Failure
 with_alike (Ok a) f g h = h a refl
 with_alike (Err e) f g h = refl
 
--- what is got in two steps, is got in the first
+-- a result in two steps has a result in the first step
 pub with_ok : {A B : Type 0} (r : Result A Failure) (f : A → Result B Failure) (b : B) → with r f ≡ Ok b →
     (a : A) × (r ≡ Ok a) × (f a ≡ Ok b)
 with_ok (Ok a) f b e = (a, refl, e)
@@ -196,7 +197,7 @@ other_set P xs i j x is not_j = set_other xs i j x (λ e. not_j (subst P e is))
 -- ---- statements
 
 module _ (shape : Shape) (arguments : List Value) (Read Write : ℕ → Type 0) (heap heap' : List Value) where
-  -- two runs have come to states alike, each from its own heap: its heap is that one but for what may be written
+  -- the states of two runs are alike: they agree but for cells that the runs do not write, which each heap keeps
   pub record AreAlike (s t : State) : Type 0 where
     pub locals : s.locals ≡ t.locals
     pub prints : s.prints ≡ t.prints
@@ -206,7 +207,7 @@ module _ (shape : Shape) (arguments : List Value) (Read Write : ℕ → Type 0) 
     pub kept : (c : ℕ) → (Write c → ⊥) → slice_get s.heap c ≡ slice_get heap c
     pub kept' : (c : ℕ) → (Write c → ⊥) → slice_get t.heap c ≡ slice_get heap' c
 
-  -- and lead on alike
+  -- both runs lead to states that are alike
   abbrev pub LeadAlike : Flow → Flow → Type 0
   LeadAlike (GoesOn s) (GoesOn t) = AreAlike s t
   LeadAlike (Traps c s) (Traps d t) = (c ≡ d) × AreAlike s t
@@ -314,7 +315,7 @@ module _ (shape : Shape) (arguments : List Value) (Read Write : ℕ → Type 0) 
       (ap (λ ns. nat_lt (length ns) 256) a.prints) (print_if (nat_lt (length s.prints) 256) n s t a)
   print_both (Ref r) s t a = tt
 
-  -- a test that is the same in equal states, and a body that leads on alike
+  -- a test with the same result in states alike, and a body that keeps states alike
   module _ (test : State → Result Bool Failure) (body : State → Flow)
       (tests : (s t : State) → AreAlike s t → test s ≡ test t)
       (leads : (s t : State) → AreAlike s t → LeadAlike (body s) (body t)) where

@@ -20,7 +20,7 @@ use Rattle.outcomes.proofs.Leading.{next_within, leads_made}
 use Rattle.outcomes.specs.Theory.Done.{sums-lengths, length-lengths, sums_set, sums_zero, zero_at, sums, lengths}
 use Rattle.outcomes.specs.Theory.Done.{among_begun}
 
--- none is more than the other at its place
+-- no number of `xs` is greater than the number of `ys` at its index
 unfoldable pub Within : List ℕ → List ℕ → Type 0
 Within xs ys = (k : ℕ) → get_or xs k 0 ≤ get_or ys k 0
 
@@ -32,7 +32,7 @@ sums_within (x ∷ xs) [] long few = cc
 sums_within (x ∷ xs) (y ∷ ys) long few =
     let rest = sums_within xs ys (omega arith) (λ k. few (suc k)) in let first = few 0 in omega arith
 
--- with the same sum they are the same
+-- two such lists with equal sums are equal
 pub same_sums : (xs ys : List ℕ) → length xs ≡ length ys → Within xs ys → sums xs ≡ sums ys → xs ≡ ys
 unfolding Within
 same_sums [] [] long few sum = refl
@@ -51,7 +51,7 @@ call_within [] k call is = cc
 call_within (c ∷ calls) zero call is = omega arith
 call_within (c ∷ calls) (suc k) call is = let rest = call_within calls k call is in omega arith
 
--- a thread that has a call left has more than are done
+-- a thread with a call left has more calls than are done
 pub some_call : (ts : List Thread) (done : List ℕ) (k : ℕ) (call : Invocation) →
     lookup (slice_get ts k) (λ (thread : Thread). option_map invocation (slice_get thread.calls.items (get_or done k 0))) ≡ Some call →
     get_or done k 0 < get_or (lengths ts) k 0
@@ -81,8 +81,7 @@ few_behind : (program : Typed) (done : List ℕ) (t : ℕ) (order : List ℕ) (o
 few_behind program done t order None few = omega arith
 few_behind program done t order (Some call) few = omega arith
 
--- the calls of an order are no more than its threads; where they are as many, the first thread has a call, and so on
--- with the others
+-- an order has no more calls than threads; if it has as many, its first thread has a call, and so on for the others
 few_calls : (program : Typed) (done order : List ℕ) → length (calls_of program done order) ≤ length order
 few_calls program done [] = omega arith
 few_calls program done (t ∷ order) = few_behind program done t order (next_call program done t) (few_calls program (one_more done t) order)
@@ -99,7 +98,7 @@ pub made_first : (program : Typed) (done : List ℕ) (t : ℕ) (order : List ℕ
     (call : Invocation) × (next_call program done t ≡ Some call) × (length (calls_of program (one_more done t) order) ≡ length order)
 made_first program done t order made = first_made program done t order (next_call program done t) refl made
 
--- such an order is one of its length
+-- such an order is among the orders of its length
 pub made_in_order : (program : Typed) (done order : List ℕ) → length (calls_of program done order) ≡ length order →
     Contains (orders_of program (length order) done) order
 made_in_order program done [] made = (0, omega arith, refl)
@@ -108,7 +107,7 @@ made_in_order program done (t ∷ order) made =
     among_begun program (orders_of program (length order)) done (length program.threads.items) t first.0 order
     (next_within program done t first.0 first.1) first.1 (made_in_order program (one_more done t) order first.2)
 
--- what is done grows with each call, and to no more than there are
+-- the numbers of calls that are done grow with each call, up to the numbers of calls
 pub made_fully : (program : Typed) (done order : List ℕ) → length (calls_of program done order) ≡ length order →
     length done ≡ length program.threads.items → Within done (lengths program.threads.items) →
     (length (done_after done order) ≡ length program.threads.items) × Within (done_after done order) (lengths program.threads.items)
@@ -122,7 +121,7 @@ made_fully program done (t ∷ order) made long few =
     let more : sums (one_more done t) ≡ suc (sums done) = sums_set done t inside in
     (rest.0, rest.1, omega (arith, rest.2, more))
 
--- of each thread as many calls are done as an order has of it, and never more than there are
+-- an order does at most as many calls of each thread as the thread has
 pub fits_made : (program : Typed) (order : List ℕ) → length (calls_in program order) ≡ length order →
     (length (done_after (none_done program) order) ≡ length program.threads.items) × Within (done_after (none_done program) order) (lengths program.threads.items)
     × (sums (done_after (none_done program) order) ≡ length order)
@@ -133,7 +132,7 @@ fits_made program order made =
     let zero_sum : sums (none_done program) ≡ 0 = sums_zero (length program.threads.items) in
     (all.0, all.1, omega (arith, all.2, zero_sum))
 
--- so an order is no longer than there are calls
+-- an order is at most as long as the number of calls
 pub made_few : (program : Typed) (order : List ℕ) → length (calls_in program order) ≡ length order →
     length order ≤ calls_together program.threads.items
 made_few program order made =
@@ -157,7 +156,7 @@ fits program n heap order done' heap' there =
     (leads_done program n (none_done program) heap order done' heap' there)
     (fits_made program order (leads_made program n (none_done program) heap order done' heap' there))
 
--- if all calls are done, each thread's are
+-- if all calls are done, all calls of each thread are done
 pub full : (program : Typed) (n : ℕ) (heap : Left) (order done' : List ℕ) (heap' : Left) →
     Leads program n (none_done program) heap order done' heap' →
     length order ≡ calls_together program.threads.items → done' ≡ lengths program.threads.items
@@ -215,7 +214,7 @@ some_order program (suc left) done long few sum =
           (next_within program done there.0 call.0 call.1) call.1 rest.1,
     )
 
--- so each state has one
+-- each state has an order
 pub has_order : (program : Typed) (n left : ℕ) (heap : Left) (order done' : List ℕ) (heap' : Left) →
     Leads program n (none_done program) heap order done' heap' →
     length order + left ≡ calls_together program.threads.items → (o : List ℕ) × Contains (orders_of program left done') o

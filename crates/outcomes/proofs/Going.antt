@@ -1,4 +1,4 @@
--- The work goes on.
+-- The search, one piece of work after another.
 use Rattle.std.proofs.Common.{◌≡◌, ◌∙◌, ℕ, ◌+◌, ◌-◌, ◌*◌, ◌<◌, ◌≤◌, zero, suc, List, [], ◌∷◌, ◌++◌, length, take, Some, ◌⊎◌}
 use Rattle.std.proofs.Common.{None, inl, inr, sum_by, ap, sym, subst, refl, arith, append-nil, add-one, length-append}
 use Rattle.std.proofs.Math.ListN.{length-set}
@@ -37,7 +37,7 @@ times_none k x none = ap (λ (y : ℕ). k * y) none ∙ omega arith
 times_both : (k a b c : ℕ) → a ≡ b + c → k * a ≡ k * b + k * c
 times_both k a b c is = ap (λ (y : ℕ). k * y) is ∙ omega arith
 
--- one piece of work and then another
+-- two pieces of work, one after the other
 pub goes_again : (search : Search) (a b c : Work) (g h both : Growth) → GoesOn search a b g → GoesOn search b c h →
     ((f : Summand) (left : ℕ) → both f left ≡ g f left + h f left) → GoesOn search a c both
 goes_again search a b c g h both first second sum =
@@ -61,7 +61,7 @@ goes_nowhere search a g work none =
       grows = λ f left. with_none _ _ (none f left);
     }
 
--- the heap was brought to a state
+-- the heap was brought to the state
 pub goes_visited : (search : Search) (old mid : Work) (state : State) (g : Growth) → Visits old mid state → IsAtWork search old →
     ((f : Summand) (left : ℕ) → g f left ≡ 0) → GoesOn search old mid g
 goes_visited search old mid state g visits work none =
@@ -83,11 +83,11 @@ goes_visited search old mid state g visits work none =
       grows = λ f left. ap (total program search.turns f left) states ∙ with_none _ _ (none f left);
     }
 
--- of no thread
+-- no thread is left to try
 pub made_none : (search : Search) (from : State) (f : Summand) (left : ℕ) → made_below search from 0 f left ≡ 0
 made_none search from f left = times_none from.orders _ refl
 
--- a state of the layer before stays one
+-- a state of the earlier layer stays one
 pub reached_still : (search : Search) (a b : Work) (g : Growth) (from : State) → GoesOn search a b g →
     IsReached search a from → IsReached search b from
 reached_still search a b g from goes reached =
@@ -164,7 +164,7 @@ goes_step search old new cells from t call outcome work reached next over deep b
       ];
     }
 
--- where a thread has no call left
+-- the thread has no call left
 pub goes_past : (search : Search) (work : Work) (from : State) (t : ℕ) → IsAtWork search work →
     next_call search.program.now from.done.items t ≡ None →
     GoesOn search work work (made_by search from t)
@@ -194,7 +194,7 @@ times_least : (a w : ℕ) → 1 ≤ w → a ≤ a * w
 times_least a zero some = absurd (omega arith)
 times_least a (suc w) some = omega arith
 
--- of a good state there is an order
+-- a good state has at least one order
 weighs : (program : Typed) (n depth left : ℕ) (start : Left) (trail : List (List ℕ)) (s : Reached) → IsGood program n depth start trail s →
     depth + left ≡ calls_together program.threads.items →
     1 ≤ weight program n one left s.done s.left
@@ -249,7 +249,7 @@ stop_further search old mid new before g whole (Beyond first thread) goes most i
 zero_plus : (t : ℕ) → 0 + t ≡ t
 zero_plus t = omega arith
 
--- the first threads have no more orders than all
+-- the first threads have no more orders than all threads
 below_least : (search : Search) (from : State) (t : ℕ) (left more : ℕ) →
     made_below search from t one left ≤ made_below search from (more + t) one left
 below_least search from t left zero = rw zero_plus (omega arith)

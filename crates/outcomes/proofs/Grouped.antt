@@ -10,7 +10,7 @@ use Rattle.outcomes.specs.declared.accesses.AccessWalk.{AccessWalk}
 use Rattle.outcomes.specs.Working.Grouping.{relabelled, IsRelabelled, AreTogether, IsCoarser}
 use Rattle.outcomes.specs.Working.Listing.{IsListed, AreListed}
 
--- a place that is there holds the same, whatever stands for one that is not
+-- an item of a list does not depend on the default for indices past the end
 pub any_default : {A : Type 0} (xs : List A) (i : ℕ) (d e : A) → i < length xs → get_or xs i d ≡ get_or xs i e
 any_default [] i d e lt = absurd (omega (arith, lt))
 any_default (x ∷ xs) zero d e lt = refl
@@ -43,11 +43,11 @@ choose_same : (b : Bool) (to : ℕ) → (if b then to else to) ≡ to
 choose_same true to = refl
 choose_same false to = refl
 
--- a group goes into itself
+-- joining a group with itself changes nothing
 pub relabelled_alike : (groups : List ℕ) (from to : ℕ) → from ≡ to → IsRelabelled from to groups groups
 relabelled_alike groups from to e = (refl, λ t lt. sym (relabelled_same from to (slice_index groups t) e))
 
--- one thread's group goes into the first one's
+-- the group of one thread is joined with the first one
 module _ (before now next : List ℕ) (i first from to : ℕ) (touching : ℕ → Bool) (lt : i < length now)
     (lt' : first < length now)
     (is_from : from ≡ get_or now i from) (is_to : to ≡ get_or now first to) (coarser : IsCoarser before now)
@@ -111,7 +111,7 @@ listed_turn bodies bodies' sections i body section lt is pushed are one =
     ap (λ s. take i sections ++ s ∷ []) is ∙ sym (take_more sections i section lt) in
     subst (λ l. AreListed l (take (i + 1) sections)) (sym pushed) (subst (AreListed (bodies ++ body ∷ [])) split all)
 
--- how far the groups of those that touch a cell are joined
+-- the invariant: the groups of the threads so far that touch a cell are joined
 pub record Joining (before now : List ℕ) (i first : ℕ) (touching : ℕ → Bool) : Type 0 where
   pub coarser : IsCoarser before now
   pub joined : (u : ℕ) → u < i → touching u ≡ true → AreTogether now u first

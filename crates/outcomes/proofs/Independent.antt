@@ -40,7 +40,7 @@ use Rattle.outcomes.proofs.Apart.{IsFramed, none_framed, section_framed, framed_
 use Rattle.outcomes.proofs.Listed.{section_from, each_more}
 use Rattle.outcomes.proofs.Marked.{past}
 
--- ---- what a call of a script is
+-- ---- the calls of a script
 
 mapped_some : {A B : Type 0} (f : A → B) (o : Option A) (b : B) → option_map f o ≡ Some b → (x : A) × (o ≡ Some x) ×
     (f x ≡ b)
@@ -220,7 +220,7 @@ module _ (program written : Typed) (checked : IsChecked program) (expansion : Is
             (apart u t lt' lt (λ same. differ (sym same)));
       }
 
--- in one group
+-- threads that are all in one group are independent
 pub all_together : (program : Typed) (groups : List ℕ) → length groups ≡ length program.threads.items →
     ((t : ℕ) → slice_index groups t ≡ 0) → AreIndependent program groups
 all_together program groups long zeros = record {
@@ -232,7 +232,7 @@ if_ok : {A E : Type 0} (P Q : A → Type 0) (r : Result A E) → ((x : A) → P 
 if_ok P Q (Ok x) f h = f x h
 if_ok P Q (Err e) f h = h
 
--- what the code has in the end, from the lists that it goes over
+-- the groups that the code ends with, from the lists that it goes through
 pub grouped_independent : (program written : Typed) (sections : List Section) (bodies own : List AccessWalk)
     (threads : List Thread) (cells : List Cell)
     (count : ℕ) (begun touched : Touched) (r : Result (Vec ℕ Global) NoMemory) →

@@ -49,7 +49,7 @@ leads_serially law program n done heap (t ∷ order) done' heap' there =
       rest.2,
     )
 
--- each of them is the next of its thread
+-- each call of an order is the next one of its thread
 pub leads_made : (program : Typed) (n : ℕ) (done : List ℕ) (heap : Left) (order done' : List ℕ) (heap' : Left) →
     Leads program n done heap order done' heap' → length (calls_of program done order) ≡ length order
 leads_made program n done heap [] done' heap' there = refl
@@ -57,21 +57,21 @@ leads_made program n done heap (t ∷ order) done' heap' there =
     ap (λ (c : Option Invocation). length (Rattle.std.specs.Option.option_to_list c ++ calls_of program (one_more done t) order)) there.2
     ∙ ap (λ (k : ℕ). suc k) (leads_made program n (one_more done t) (left_after program done t there.1 heap) order done' heap' there.4)
 
--- ---- they are orders
+-- ---- such calls are orders
 
 some_of_lookup : {A B : Type 0} (o : Option A) (go : A → Option B) (b : B) → lookup o go ≡ Some b →
     (a : A) × (o ≡ Some a)
 some_of_lookup None go b is = cc
 some_of_lookup (Some a) go b is = (a, refl)
 
--- who has a call is a thread
+-- a thread that has a call is a thread of the program
 pub next_within : (program : Typed) (done : List ℕ) (t : ℕ) (call : Invocation) →
     next_call program done t ≡ Some call → t < length program.threads.items
 next_within program done t call next =
     let there = some_of_lookup (slice_get program.threads.items t) _ call next in
     slice_get_within program.threads.items t there.0 there.1
 
--- calls that lead on are made in one of the orders
+-- calls that lead to a state are one of the orders
 pub leads_in_order : (program : Typed) (n : ℕ) (done : List ℕ) (heap : Left) (order done' : List ℕ) (heap' : Left) →
     Leads program n done heap order done' heap' → Contains (orders_of program (length order) done) order
 leads_in_order program n done heap [] done' heap' there = (0, omega arith, refl)
@@ -82,7 +82,7 @@ leads_in_order program n done heap (t ∷ order) done' heap' there =
 
 -- ---- states stay good
 
--- in a longer trail
+-- the same in a longer trail
 pub good_longer : (program : Typed) (n depth : ℕ) (start : Left) (trail trail' : List (List ℕ)) (s : Reached) → IsLonger trail trail' →
     IsGood program n depth start trail s → IsGood program n depth start trail' s
 good_longer program n depth start trail trail' s longer good =
@@ -101,13 +101,13 @@ good_longer program n depth start trail trail' s longer good =
 pub longer_again : (a b c : List (List ℕ)) → IsLonger a b → IsLonger b c → IsLonger a c
 longer_again a b c ab bc = (ab.0 ++ bc.0, bc.1 ∙ ap (λ (x : List (List ℕ)). x ++ bc.0) ab.1 ∙ append_assoc a ab.0 bc.0)
 
--- where more orders lead to one of them
+-- more orders lead to one of the states
 pub good_more : (program : Typed) (n depth more : ℕ) (start : Left) (trail : List (List ℕ)) (s : Reached) →
     IsGood program n depth start trail s → IsGood program n depth start trail (with_more s more)
 good_more program n depth more start trail s good =
     record { threads = good.threads; cells = good.cells; typed = good.typed; first = good.first; long = good.long; leads = good.leads }
 
--- a state stands where it stood, maybe with more orders
+-- a state is unchanged, but may have more orders
 IsStill : Reached → Reached → ℕ → Type 0
 IsStill s s' more = (s' ≡ s) ⊎ (s' ≡ with_more s more)
 
@@ -129,7 +129,7 @@ still_left : (s s' : Reached) (more : ℕ) → IsStill s s' more → s'.left ≡
 unfolding IsStill
 still_left s s' more still = elim still [ inl same ↦ ap (λ (x : Reached). x.left) same | inr same ↦ ap (λ (x : Reached). x.left) same ]
 
--- what more orders may lead to
+-- a property that more orders keep
 abbrev pub Allows : (Reached → Type 0) → Type 0
 Allows Is = (s : Reached) (more : ℕ) → Is s → Is (with_more s more)
 
@@ -190,7 +190,7 @@ pub all_longer : (program : Typed) (n depth : ℕ) (start : Left) (trail trail' 
 all_longer program n depth start trail trail' states longer good =
     record { each = λ k within. good_longer program n depth start trail trail' (at states k) longer (good.each k within); apart = good.apart }
 
--- the last of a list, or one before it
+-- the last item of a list, or an earlier one
 at_pushed : (states : List Reached) (s : Reached) (k : ℕ) → k < length (states ++ s ∷ []) →
     ((k < length states) × (at (states ++ s ∷ []) k ≡ at states k)) ⊎ ((k ≡ length states) × (at (states ++ s ∷ []) k ≡ s))
 at_pushed states s k within =

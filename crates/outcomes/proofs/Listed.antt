@@ -1,4 +1,4 @@
--- A section whose accesses are within some cells is itself.
+-- The accesses of a section that are within some cells.
 use Rattle.std.proofs.Common.{ℕ, List, [], ◌∷◌, ◌++◌, Option, Some, None}
 use Rattle.core_lang.specs.declared.value.Value.{Value}
 use Rattle.core_lang.specs.declared.shape.Shape.{Shape}
@@ -146,7 +146,7 @@ module _ (shape : Shape) (arguments : List Value) (Read Write : ℕ → Type 0) 
             (back body (result_in section.result) each),
       )
 
--- more cells
+-- more cells may be accessed
 module _ (shape : Shape) (arguments : List Value) (Read Write Read' Write' : ℕ → Type 0)
     (reads : (c : ℕ) → Read c → Read' c) (writes : (c : ℕ) → Write c → Write' c) where
   pub leads_more : (Has Has' : Value → Type 0) (v : Value) (steps : List FieldStep) → ((w : Value) → Has w → Has' w) →
@@ -177,7 +177,7 @@ module _ (shape : Shape) (arguments : List Value) (Read Write Read' Write' : ℕ
   each_more [] each = tt
   each_more (x ∷ xs) each = (touch_more x each.0, each_more xs each.1)
 
--- a further step on a way, and a further touch
+-- one more step on a way, and one more touched cell
 module _ (shape : Shape) (arguments : List Value) (Read Write : ℕ → Type 0) where
   pub leads_behind : (Has Has' : Value → Type 0) (v : Value) (steps : List FieldStep) (step : FieldStep) →
       LeadsWithin shape arguments Read Write Has v steps →

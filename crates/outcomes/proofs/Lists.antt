@@ -1,7 +1,7 @@
 -- The items of a list with one more item, or with an item replaced.
 use Rattle.std.proofs.Common.{◌≡◌, ℕ, zero, suc, List, [], ◌∷◌, slice_get, slice_set, Some, ◌⊎◌, inl, inr, ap, refl}
 
--- what stands in a list where an item is replaced is the new item, or stood there
+-- an item after a replacement is the new item, or was there before
 pub set_at : {A : Type 0} (xs : List A) (i : ℕ) (x : A) (k : ℕ) (y : A) → slice_get (slice_set xs i x) k ≡ Some y →
     ((k ≡ i) × (x ≡ y)) ⊎ (slice_get xs k ≡ Some y)
 set_at [] i x k y is = cc
@@ -11,7 +11,7 @@ set_at (z ∷ xs) (suc i) x zero y is = inr is
 set_at (z ∷ xs) (suc i) x (suc k) y is =
     elim (set_at xs i x k y is) [ inl here ↦ inl (ap (λ (n : ℕ). suc n) here.0, here.1) | inr there ↦ inr there ]
 
--- and of what stood in the list it is the new item, or still stands there
+-- an item before a replacement is replaced by the new item, or stays
 pub replaced_at : {A : Type 0} (xs : List A) (i : ℕ) (x : A) (k : ℕ) (y : A) → slice_get xs k ≡ Some y →
     ((k ≡ i) × (slice_get (slice_set xs i x) k ≡ Some x)) ⊎ (slice_get (slice_set xs i x) k ≡ Some y)
 replaced_at [] i x k y is = cc

@@ -1,4 +1,4 @@
--- Marks stay, and what is marked step by step is marked in the end.
+-- Marks stay, and what each step marks is marked in the end.
 use Rattle.std.proofs.Common.{◌≡◌, ◌<◌, ◌+◌, ℕ, List, [], ◌∷◌, ◌++◌, Ok, true, Option, Some, None, sym, ap, ◌∙◌, refl}
 use Rattle.std.proofs.Common.{subst, inl, inr, take, length, get_or, zero, suc, ◌≤◌, arith, IfSome, is_some}
 use Rattle.std.specs.Prelude.{slice_get, nat_le}

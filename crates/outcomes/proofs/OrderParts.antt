@@ -59,7 +59,7 @@ begun_is (Some call) t following order there =
       there = (there.0, within, get_or_default following there.0 rest [] within);
     }
 
--- the first thread of an order has a call left, and the others follow in an order of what is left then
+-- the first thread of an order has a call left, and the others follow in an order of the remaining calls
 pub record BeginsWith (program : Typed) (following : List ℕ → List (List ℕ)) (done : List ℕ) (count : ℕ) (order : List ℕ) : Type 0 where
   pub thread : ℕ
   pub below : thread < count
@@ -84,11 +84,11 @@ none_is : (order : List ℕ) → Contains ([] ∷ []) order → order ≡ []
 none_is order (zero, within, is) = sym is
 none_is order (suc k, within, is) = absurd (omega (arith, within))
 
--- an order of no calls is none
+-- an order of no calls is empty
 pub no_order : (program : Typed) (done order : List ℕ) → Contains (orders_of program 0 done) order → order ≡ []
 no_order program done order there = none_is order there
 
--- each call of an order is the next of its thread
+-- each call of an order is the next one of its thread
 pub order_made : (program : Typed) (left : ℕ) (done order : List ℕ) → Contains (orders_of program left done) order →
     (length order ≡ left) × (length (calls_of program done order) ≡ length order)
 order_made program zero done order there =
@@ -109,7 +109,7 @@ abbrev pub NoneIn : List ℕ → ℕ → List ℕ → Type 0
 NoneIn groups group [] = ⊤
 NoneIn groups group (u ∷ us) = (slice_index groups u ≢ group) × NoneIn groups group us
 
--- the first of the order that is
+-- the first thread of the order that is of the group
 pub record IsFirst (groups : List ℕ) (group : ℕ) (order : List ℕ) : Type 0 where
   pub before : List ℕ
   pub thread : ℕ
@@ -136,7 +136,7 @@ first_or_none groups group (u ∷ us) =
       ])
     ]
 
--- of a thread that isn't there no call is made
+-- an order without the group's threads makes no call of them
 still_done : (groups : List ℕ) (t : ℕ) (done order : List ℕ) → NoneIn groups (slice_index groups t) order →
     get_or (done_after done order) t 0 ≡ get_or done t 0
 still_done groups t done [] none = refl
@@ -144,7 +144,7 @@ still_done groups t done (u ∷ us) none =
     still_done groups t (one_more done u) us none.1
     ∙ get_or-set_other done u t (get_or done u 0 + 1) 0 (λ (same : t ≡ u). none.0 (ap (slice_index groups) (sym same)))
 
--- an order of all that is left has each thread that has a call left, and so the first of its group
+-- an order of all remaining calls has each thread with a call left, and hence a first thread of its group
 pub first_of_group : (program : Typed) (groups : List ℕ) (left : ℕ) (done order : List ℕ) (t : ℕ) (call : Invocation) →
     Contains (orders_of program left done) order → length done ≡ length program.threads.items →
     Within done (lengths program.threads.items) → sums done + left ≡ calls_together program.threads.items →

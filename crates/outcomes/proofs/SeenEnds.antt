@@ -1,4 +1,4 @@
--- Ends, distinguished by what is asked for.
+-- Ends, distinguished by what the request asks for.
 use Rattle.std.proofs.Common.{◌≡◌, ◌∙◌, ℕ, ◌+◌, ◌*◌, ◌<◌, ◌≤◌, List, [], ◌∷◌, length, take, inl, inr}
 use Rattle.std.proofs.Common.{sum_by, ap, sym, subst, refl, arith}
 use Rattle.std.proofs.lemmas.List.Sums.{sum_by_more, sum_by_push, sum_by-cons, sum_by-set, sum_by-take-le}
@@ -32,13 +32,13 @@ end_more search trail s more end =
       seen_is = end.seen_is;
     }
 
--- if all calls are done in a state, the part of it that is asked for is an end
+-- if all calls are done in a state, the part that the request asks for is an end
 end_of_state : (search : Search) (trail : List (List ℕ)) (s : Reached) →
     IsGood search.program.now search.turns (calls_together search.program.now.threads.items) (start_of search) trail s →
     IsEnd search trail (record s { left = seen search.asked.now.cells s.left })
 end_of_state search trail s good = record { left = s.left; good = good; seen_is = refl }
 
--- no state has no ends
+-- no states have no ends
 pub no_ends : (search : Search) (trail : List (List ℕ)) (ends : List Reached) → ends ≡ [] → AreEndsOfStates search trail [] ends
 no_ends search trail ends none =
     rw none (record {
@@ -100,7 +100,7 @@ counted_once (s ∷ states) =
     sum_by-cons (λ (r : Reached). r.orders * 1) s states ∙ ap (λ (x : ℕ). s.orders * 1 + x) (counted_once states)
     ∙ (let whole = sum_by-cons (λ (r : Reached). r.orders) s states in omega (arith, whole))
 
--- there are at most as many orders as lead to the states
+-- the number of orders counted so far is at most the number of those that lead to the states
 pub room_for_one : (search : Search) (trail : List (List ℕ)) (layer ends : List Reached) (k : ℕ) (state : State) →
     k < length layer → at layer k ≡ state_in search state → AreEndsOfStates search trail (take k layer) ends →
     orders_to ends + state.orders ≤ orders_to layer

@@ -10,7 +10,7 @@ use Rattle.outcomes.specs.Ends.{Left, left_by, end_from, done_after}
 use Rattle.outcomes.specs.Working.States.{Reached, at, nowhere, with_more}
 use Rattle.outcomes.specs.Working.Searching.{left_after, sum_over, weight, IsFound, IsAdded, Summand}
 
--- if a call is over, an order that begins with it ends as the others end from there
+-- an order that begins with a call that ends has the end of its other calls, made from there
 pub end_behind : (program : Typed) (n : ℕ) (done : List ℕ) (heap : Left) (t : ℕ) (call : Invocation) (finished : Finished) (order : List ℕ) →
     next_call program done t ≡ Some call → run_call program n call heap.cells ≡ Over finished →
     end_from program n done heap (t ∷ order) ≡ end_from program n (one_more done t) (left_after program done t finished heap) order
@@ -27,7 +27,7 @@ sum_behind f g t (o ∷ os) same =
     ∙ ap (λ (x : ℕ). x + sum_by f (map (λ (order : List ℕ). t ∷ order) os)) (same o)
     ∙ ap (λ (x : ℕ). g o + x) (sum_behind f g t os same) ∙ sym (sum_by-cons g o os)
 
--- the orders that begin with a thread are those from where its call leads
+-- the sum over the orders that begin with a thread is the sum over the orders from the state to which its call leads
 pub sum_with : (program : Typed) (n left : ℕ) (f : Summand) (done : List ℕ) (heap : Left) (t : ℕ) (call : Invocation) (finished : Finished) →
     next_call program done t ≡ Some call → run_call program n call heap.cells ≡ Over finished →
     sum_over program n f done heap (begun_with (next_call program done t) t (orders_of program left (one_more done t)))
@@ -37,7 +37,7 @@ sum_with program n left f done heap t call finished next over =
     ∙ sum_behind (λ (o : List ℕ). f (done_after done o) (end_from program n done heap o)) (λ (o : List ℕ). f (done_after (one_more done t) o) (end_from program n (one_more done t) (left_after program done t finished heap) o)) t
     (orders_of program left (one_more done t)) (λ o. ap (f (done_after (one_more done t) o)) (end_behind program n done heap t call finished o next over))
 
--- and there are none, where it has no call left
+-- no order begins with a thread that has no call left
 pub sum_without : (program : Typed) (n left : ℕ) (f : Summand) (done : List ℕ) (heap : Left) (t : ℕ) →
     next_call program done t ≡ None →
     sum_over program n f done heap (begun_with (next_call program done t) t (orders_of program left (one_more done t))) ≡ 0
@@ -61,7 +61,7 @@ times_more a b w = omega arith
 after : (a b c d x y : ℕ) → a + b ≡ c + d → d ≡ b + x → x ≡ y → a ≡ c + y
 after a b c d x y p q r = omega arith
 
--- orders that lead to a state that is there
+-- orders that lead to a state that was reached before
 pub total_found : (w : List ℕ → Left →
     ℕ) (old new : List Reached) (trail trail' : List (List ℕ)) (done : List ℕ) (heap : Left) (more : ℕ) →
     IsFound old new trail trail' done heap more →
@@ -75,7 +75,7 @@ total_found w old new trail trail' done heap more found =
     let times : more * w s.done s.left ≡ more * w done heap = ap (λ (x : ℕ). more * x) same in
     ap (sum_by g) found.states ∙ after _ _ _ _ _ _ sums more_is times
 
--- and to a new one
+-- orders that lead to a new state
 pub total_added : (w : List ℕ → Left →
     ℕ) (old new : List Reached) (trail trail' : List (List ℕ)) (done : List ℕ) (heap : Left) (more from thread : ℕ) →
     IsAdded old new trail trail' done heap more from thread →

@@ -23,7 +23,7 @@ use Rattle.outcomes.proofs.Lists.{set_at, replaced_at}
 use Rattle.core_lang.specs.Theory.Items.{get_some, still_at, last_at, pushed_at}
 
 module _ (start : DefaultHasher) (opening : List Value) where
-  -- entries with the same hashes in the same places
+  -- entries with the same hashes at the same indices below `n`
   abbrev HaveSame : List Entry → List Entry → ℕ → Type 0
   HaveSame entries others n =
       (h k : ℕ) → k < n → (HasHash start opening entries h k → HasHash start opening others h k) × (HasHash start opening others h k → HasHash start opening entries h k)
@@ -34,7 +34,7 @@ module _ (start : DefaultHasher) (opening : List Value) where
   last_along entries others h n (Some last) same is =
       (is.0, (same h last is.0).0 is.1, λ k above within has. is.2 k above within ((same h k within).1 has))
 
-  -- ---- one more
+  -- ---- one more entry
 
   same_with_more : (entries : List Entry) (e : Entry) (n : ℕ) → n ≤ length entries →
       HaveSame entries (entries ++ e ∷ []) n
@@ -107,7 +107,7 @@ module _ (start : DefaultHasher) (opening : List Value) where
         ];
       }
 
-  -- ---- one replaced, by one like it
+  -- ---- an entry that is replaced by one with the same hash
 
   same_with_other : (entries : List Entry) (i : ℕ) (e other : Entry) (n : ℕ) → slice_get entries i ≡ Some e →
       hash_of start opening other ≡ hash_of start opening e →
@@ -167,12 +167,12 @@ module _ (start : DefaultHasher) (opening : List Value) where
 
   -- ---- finding
 
-  -- what is such a state has the hash
+  -- an entry equal to the state has its hash
   has_hash : (entries : List Entry) (done : List ℕ) (cells : Left) (k : ℕ) → HasAlike opening entries done cells k →
       HasHash start opening entries (hash_left start opening done cells) k
   has_hash entries done cells k has = (has.0, has.1, ap (λ (d : List ℕ). hash_left start opening d ((entry_state opening) has.0).left) has.2.0 ∙ ap (hash_left start opening done) has.2.1)
 
-  -- if such states stand below n, the last with the hash is next
+  -- if an entry equal to the state is below `n`, the last entry with the hash is looked at next
   pub left_from : (entries : List Entry) (done : List ℕ) (cells : Left) (n : ℕ) (o : Option ℕ) →
       ((k : ℕ) → HasAlike opening entries done cells k → k < n) → IsLast start opening entries (hash_left start opening done cells) n o → IsLeft start opening entries done cells o
   left_from entries done cells n None below none = λ k has. none k (below k has) (has_hash entries done cells k has)
@@ -213,7 +213,7 @@ module _ (start : DefaultHasher) (opening : List Value) where
   at_entry entries k e is =
       get_or-map (entry_state opening) entries k e nowhere (slice_get_within entries k e is) ∙ ap (entry_state opening) (get_or_from_slice_get entries k e e is)
 
-  -- a number that is left is one of a state
+  -- the entry that is looked at next is the entry of a state
   pub left_within : (entries : List Entry) (done : List ℕ) (cells : Left) (o : Option ℕ) (k : ℕ) →
       IsLeft start opening entries done cells o → o ≡ Some k →
       k < length (map (entry_state opening) entries)

@@ -19,7 +19,7 @@ length-grown orders [] = sym (omega arith)
 length-grown orders (x ∷ ss) =
     length-grown (orders ++ longer orders x.before x.thread ∷ []) ss ∙ omega (arith, length-append orders (longer orders x.before x.thread ∷ []))
 
--- what is there stays
+-- the orders so far stay
 pub grown_keeps : (orders : List (List ℕ)) (ss : List TrailEdge) (k : ℕ) → k < length orders →
     get_or (grown orders ss) k [] ≡ get_or orders k []
 grown_keeps orders [] k within = refl
@@ -28,7 +28,7 @@ grown_keeps orders (x ∷ ss) k within =
     let within' : k < length (orders ++ more) = omega (arith, length-append orders more) in
     grown_keeps (orders ++ more) ss k within' ∙ get_or-append orders more [] k within
 
--- and each step's order is that of the one before with its thread
+-- the order of each step is that of the step before it, with the step's thread
 pub grown_at : (orders : List (List ℕ)) (ss : List TrailEdge) (k : ℕ) (s : TrailEdge) → slice_get ss k ≡ Some s →
     s.before < length orders + k →
     get_or (grown orders ss) (length orders + k) [] ≡ longer (grown orders ss) s.before s.thread
@@ -53,7 +53,7 @@ grown_at orders (x ∷ ss) (suc k) s is before =
     let before' : s.before < length (orders ++ more) + k = omega (arith, long) in
     ap (λ (k : ℕ). get_or (grown (orders ++ more) ss) k []) place ∙ grown_at (orders ++ more) ss k s is before'
 
--- one more step that leads from one that is there
+-- one more step, which leads on from an earlier one
 pub backward_one_more : (ss : List TrailEdge) (s : TrailEdge) → AreBackward ss → s.before ≤ length ss → AreBackward (ss ++ s ∷ [])
 backward_one_more ss s back within k y is =
     elim (pushed_at ss s k y is) [
@@ -64,7 +64,7 @@ backward_one_more ss s back within k y is =
 pub length-orders : (ss : List TrailEdge) → length (orders_of ss) ≡ suc (length ss)
 length-orders ss = length-grown ([] ∷ []) ss ∙ omega arith
 
--- an order that isn't the first
+-- an order other than the first
 pub order_at : (ss : List TrailEdge) (at : ℕ) (s : TrailEdge) → AreBackward ss → 0 < at → slice_get ss (at - 1) ≡ Some s →
     (s.before < at) × (get_or (orders_of ss) at [] ≡ longer (orders_of ss) s.before s.thread)
 order_at ss at s back some is =
@@ -73,7 +73,7 @@ order_at ss at s back some is =
     let early : s.before < 1 + (at - 1) = omega arith in
     (omega arith, ap (λ (k : ℕ). get_or (orders_of ss) k []) (sym place) ∙ grown_at ([] ∷ []) ss (at - 1) s is early)
 
--- one more thread is found of an order
+-- one more thread of an order is found
 pub found_more : (whole left before : List ℕ) (thread : ℕ) (found : List ℕ) → whole ≡ left ++ reverse found →
     left ≡ before ++ thread ∷ [] →
     whole ≡ before ++ reverse (found ++ thread ∷ [])

@@ -34,7 +34,7 @@ use Rattle.outcomes.proofs.Leading.{leads_in_order, leads_serially, leads_made}
 use Rattle.outcomes.proofs.Full.{full, leads_done}
 use Rattle.outcomes.specs.Theory.Done.{lengths}
 
--- ---- the begin
+-- ---- the beginning
 
 good_opening : (search : Search) → IsChecked search.program.now →
     IsGood search.program.now search.turns 0 (start_of search) ([] ∷ []) (opening_state search)
@@ -152,7 +152,7 @@ all_end law search trail ends are k d within =
     let inside : k < length ends = rw length-map at within in
     subst (IsEndOf search.program.now search.asked.now) (sym (told_at trail ends k d within)) (each_ends law search trail (at ends k) (are.each k inside))
 
--- if all calls are done, each thread's are
+-- if all calls are done, all calls of each thread are done
 end_done : (search : Search) (trail : List (List ℕ)) (s : Reached) → IsEnd search trail s →
     s.done ≡ lengths search.program.now.threads.items
 end_done search trail s end =
@@ -241,7 +241,7 @@ unfolding same_cells
 cells_same [] = refl
 cells_same (x ∷ xs) = ap (λ b. cond b (same_cells xs xs) false) (value_same x) ∙ cells_same xs
 
--- ---- of answers
+-- ---- ends with answers
 
 trap_of : ℕ → Trap
 trap_of zero = NullBase
@@ -318,7 +318,7 @@ unfolding same_answers
 answers_same [] = refl
 answers_same (x ∷ xs) = ap (λ b. cond b (same_answers xs xs) false) (answer_same x) ∙ answers_same xs
 
--- ---- of what is left
+-- ---- the cells that an end leaves
 
 pub same_left : Left → Left → Bool
 same_left a b = cond (same_cells a.cells b.cells) (same_answers a.answers b.answers) false
@@ -337,7 +337,7 @@ pub left_same : (a : Left) → same_left a a ≡ true
 unfolding same_left
 left_same a = ap (λ b. cond b (same_answers a.answers a.answers) false) (cells_same a.cells) ∙ answers_same a.answers
 
--- the tests: whether the turns don't settle all calls, and whether this is left
+-- the tests: whether the turns don't settle all calls, and whether the end is this one
 unfoldable pub unsettled_end : Option Left → Bool
 unsettled_end None = true
 unsettled_end (Some left) = false
@@ -350,7 +350,7 @@ some_first : (a b : ℕ) → 0 < a + b → (0 < a) ⊎ (0 < b)
 some_first zero b more = inr (omega arith)
 some_first (suc a) b more = inl (omega arith)
 
--- a sum that is not nothing has a term that is not
+-- a sum greater than 0 has a term greater than 0
 pub some_term : {X : Type 0} (g : X → ℕ) (told : List X) → 0 < sum_by g told →
     (k : ℕ) × (e : X) × (k < length told) × (get_or told k e ≡ e) × (0 < g e)
 some_term g [] more = absurd (omega arith)
@@ -371,7 +371,7 @@ pub passed : (b : Bool) (k : ℕ) → 0 < cond b k 0 → b ≡ true
 passed true k more = refl
 passed false k more = absurd (omega arith)
 
--- an order is counted where its end passes
+-- an order counts if its end passes the test
 counted_once : (program : Typed) (end : List ℕ → Option Left) (order : List ℕ) (test : Option Left → Bool) →
     Contains (orders program) order → test (end order) ≡ true →
     0 < count_by (λ (o : List ℕ). test (end o)) (orders program)

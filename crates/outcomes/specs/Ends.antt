@@ -43,7 +43,8 @@ answers_after program done (t ∷ order) [] answers = answers
 answers_after program done (t ∷ order) (e ∷ ends) answers =
     answers_after program (one_more done t) order ends (answered program done t e.outcome answers)
 
--- the order has all calls of the program, and these, run whole one after another from the opening heap, leave this state
+-- the order has all calls of the program, and these, run whole one after another from the opening heap, leave this
+-- state
 pub record EndsIn (program : Typed) (answers : Bool) (order : List ℕ) (left : Left) : Type 0 where
   pub is_order : Contains (orders program) order
   pub ends : List Ended
@@ -60,8 +61,8 @@ abbrev pub left_by : Typed → List ℕ → List ℕ → List (Option ended.Outc
 left_by program done order answers p =
     left_if_settled p.unsettled (record { cells = p.heap; answers = answers_after program done order p.ends answers })
 
--- the state that the calls of an order leave from a state, with n turns for each execution of a loop; none, if the turns
--- don't settle them all
+-- the state that the calls of an order leave from a state, with n turns for each execution of a loop; none, if the
+-- turns don't settle them all
 abbrev pub end_from : Typed → ℕ → List ℕ → Left → List ℕ → Option Left
 end_from program n done left order =
     left_by program done order left.answers (serial_with program n left.cells (calls_of program done order))
@@ -198,8 +199,8 @@ HasSomeConfigurations program answers count =
     (configurations : List Configuration) × AreConfigurations program answers configurations × (length configurations ≡ count)
 
 -- the result of a search. `All`: the ends of all orders, and the number of configurations. `Reduced`: the ends of all
--- orders, found by running some that stand for all, and the number of configurations that these reach. `Drawn`: the ends
--- of orders that were drawn. `Unsettled`: an order after which n turns don't settle the next call of a thread
+-- orders, found by running some that stand for all, and the number of configurations that these reach. `Drawn`: the
+-- ends of orders that were drawn. `Unsettled`: an order after which n turns don't settle the next call of a thread
 abbrev pub Finds : Typed → ℕ → ℕ → Asked → Found → Type 0
 Finds program n most asked (found.All ends configurations) =
     AreAllEnds program n asked (map told_of ends.items) × HasConfigurations program asked.answers configurations

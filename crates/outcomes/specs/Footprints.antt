@@ -49,8 +49,8 @@ FieldIn shape Cell base field = (cell : ℕ) → field_cell shape base field ≡
 
 -- `Read` and `Write` are the sets of the cells that may be read and written
 module _ (shape : Shape) (arguments : List Value) (Read Write : ℕ → Type 0) where
-  -- the fields on the path may be read, and its value has the property `Has`. Final references are followed; the value of
-  -- another field may be anything
+  -- the fields on the path may be read, and its value has the property `Has`. Final references are followed; the value
+  -- of another field may be anything
   abbrev pub LeadsWithin : (Value → Type 0) → Value → List FieldStep → Type 0
   LeadsWithin Has v [] = Has v
   LeadsWithin Has v (Final structure f ∷ steps) =
@@ -122,6 +122,7 @@ module _ (shape : Shape) (arguments : List Value) (Read Write : ℕ → Type 0) 
   ResultWithin (Some result) = ReadsWithin result.value
 
   -- a call of the section reads and writes only these cells. The definition goes by the tree, over each access that the
-  -- call may come to: a parameter holds its argument, final references are followed, and any other value may be anything
+  -- call may come to: a parameter holds its argument, final references are followed, and any other value may be
+  -- anything
   abbrev pub SectionWithin : Section → Type 0
   SectionWithin section = AllActWithin section.body.items × ResultWithin section.result

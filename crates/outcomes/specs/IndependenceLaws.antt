@@ -17,8 +17,8 @@ AgreeOn Cell heap heap' = (c : ℕ) → Cell c → slice_get heap c ≡ slice_ge
 abbrev pub ChangesOnly : (ℕ → Type 0) → List Value → List Value → Type 0
 ChangesOnly Cell before after = (c : ℕ) → (Cell c → ⊥) → slice_get after c ≡ slice_get before c
 
--- a run from another heap ends as the first one did, and leaves the same values in the cells that may be read or written;
--- neither run changes other cells than those that may be written
+-- a run from another heap ends as the first one did, and leaves the same values in the cells that may be read or
+-- written; neither run changes other cells than those that may be written
 pub record EndsAlike (Read Write : ℕ → Type 0) (run : List Value → Run) (heap heap' : List Value)
     (finished : Finished) : Type 0 where
   pub other : Finished

@@ -1,5 +1,5 @@
--- The orders in which the calls of a program's scripts can be made one after another. An order is a list of threads: each
--- item stands for the next call of that thread's script.
+-- The orders in which the calls of a program's scripts can be made one after another. An order is a list of threads:
+-- each item stands for the next call of that thread's script.
 use Rattle.std.specs.Prelude.{ℕ, ◌+◌, zero, suc, List, [], ◌∷◌, ◌++◌, length, map, replicate, slice_get, slice_set, take}
 use Rattle.std.specs.Prelude.{slice_index, Option, Some, None, option_map, option_to_list}
 use Rattle.core_lang.specs.declared.typed.Thread.{Thread}

@@ -118,10 +118,10 @@ fn bodies<'a>(alloc: Global, sections: &'a [Section]) -> Result<Vec<AccessWalk<'
     Ok(bodies)
 }
 
-/// The group of each thread: two threads are in one group if a call of one may write a cell that a call of the other may
-/// read or write, or if other threads link them so. Calls of different groups commute: if n turns of each loop settle one
-/// and then the other, they settle them in the other order too, with the same ends, prints and cells. `written` is the
-/// program with its helpers expanded. The only error is `NoMemory`.
+/// The group of each thread: two threads are in one group if a call of one may write a cell that a call of the other
+/// may read or write, or if other threads link them so. Calls of different groups commute: if n turns of each loop
+/// settle one and then the other, they settle them in the other order too, with the same ends, prints and cells.
+/// `written` is the program with its helpers expanded. The only error is `NoMemory`.
 pub fn groups(alloc: Global, program: &Typed, written: &Typed) -> Result<Vec<usize>, NoMemory>
     requires checked { IsChecked program.now }
     requires expansion { IsExpansion program.now written.now }

@@ -49,8 +49,8 @@ pub struct Search<'a> {
     pub hashing: KeyedState,
 }
 
-/// The working state of a search: a heap to run calls on, the states of the layer that is made, and the orders that lead
-/// to states.
+/// The working state of a search: a heap to run calls on, the states of the layer that is made, and the orders that
+/// lead to states.
 #[derive(Drop)]
 pub(crate) struct Work<'a> {
     pub(crate) heap: Heap,
@@ -440,8 +440,8 @@ impl Search<'_> {
         }))
     }
 
-    /// The ends of all orders, found by orders that stand for all, or an unsettled call. `None` means that these are more
-    /// than the limit.
+    /// The ends of all orders, found by orders that stand for all, or an unsettled call. `None` means that these are
+    /// more than the limit.
     ///
     /// If all threads are in one group, these are all orders, which are more than the limit.
     fn by_groups(&self, alloc: Global) -> Result<Option<Found>, NoMemory>
@@ -458,9 +458,9 @@ impl Search<'_> {
     /// The ends of all orders, if all of them, or some that stand for all, are within the limit. Otherwise the ends of
     /// orders that are drawn from `seed`, as many as the limit. No clause says which are drawn.
     ///
-    /// Each end is reported once, with one order that leads to it and, if all orders were run, the number of orders that
-    /// do. If some orders stand for all, each end is reported with one of them. A call that the turns don't settle is
-    /// reported with an order after which it is the next one.
+    /// Each end is reported once, with one order that leads to it and, if all orders were run, the number of orders
+    /// that do. If some orders stand for all, each end is reported with one of them. A call that the turns don't settle
+    /// is reported with an order after which it is the next one.
     ///
     /// # Errors
     ///

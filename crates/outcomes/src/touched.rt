@@ -123,8 +123,8 @@ pub struct Touched {
 }
 
 impl Touched {
-    // The value after a further step of a path, and the mark of the field that is read, unless it is final. `None` if the
-    // field is not known.
+    // The value after a further step of a path, and the mark of the field that is read, unless it is final. `None` if
+    // the field is not known.
     fn step(&mut self, caller: &Caller, base: Reached, step: FieldStep) -> Option<Reached>
         requires { caller.now.thread < 128 }
         ensures more { TouchedMore self.old self.new }

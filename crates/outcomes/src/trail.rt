@@ -15,8 +15,8 @@ pub(crate) struct TrailEdge {
     pub(crate) thread: usize,
 }
 
-/// Numbered orders. The first is empty, and each later one is an earlier one followed by a thread. Its value is the list
-/// of the orders.
+/// Numbered orders. The first is empty, and each later one is an earlier one followed by a thread. Its value is the
+/// list of the orders.
 #[derive(Drop)]
 pub struct Trail {
     steps: Vec<TrailEdge>,

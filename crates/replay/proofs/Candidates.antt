@@ -1,4 +1,4 @@
--- Which call a line can be of.
+-- The call that a line can be of.
 use Rattle.std.proofs.Common.{◌≡◌, ◌∙◌, ◌<◌, ◌≤◌, ◌^◌, ℕ, true, false, List, ◌++◌, length, slice_get, Some, None, arith, sym}
 use Rattle.std.proofs.Common.{ap, refl, subst}
 use Rattle.std.specs.Prelude.{option_map, drop}
@@ -34,7 +34,7 @@ use Rattle.replay.proofs.Heads.{shown, IsShort, told_head, invoked_head}
 use Rattle.replay.proofs.Nexts.{call_told, calls_by_most, next_counted, next_thread, scripted_call, short_begin}
 use Rattle.replay.proofs.Scripts.{scheduled_at, next_call_in, call_in_bounds}
 
--- ---- what holds of the line of a thread's next call
+-- ---- the line of a thread's next call
 
 record Agrees (format : Format) (at : Progress) (text : List ℕ) (call : Scheduled) (begun : ℕ) : Type 0 where
   told : told_in format text ≡ Some (record { thread = call.thread; step = call.step; begun = shown format begun })
@@ -88,10 +88,10 @@ with_parts this t k c thread step call =
     ∙ ap (λ n. record { thread = t; step = n; call = record { section = this.section; arguments = this.arguments.now } }) step
     ∙ ap (λ c. record { thread = t; step = k; call = c }) call
 
--- ---- whoever calls
+-- ---- callers of either kind
 
 module _ (callers : Callers) (format : Format) (program : Typed) (at : Progress) (text : List ℕ) (well : IsChecked program) (small : at.position < 2 ^ 63) where
-  -- the line does not begin as a call's
+  -- the line does not begin as the line of a call
   pub no_told : told_in format text ≡ None → IsNoCall callers format program at text
   no_told none reader call begun end is next =
       let a = agrees callers format program at text reader call begun end well small is next in
@@ -122,12 +122,12 @@ module _ (callers : Callers) (format : Format) (program : Typed) (at : Progress)
               ∙ ap (begins_at format (least_at at.seats call.thread) at.position) begins ∙ a.begins;
         }
 
-    -- it may not begin so
+    -- a call with this begin is not allowed
     pub no_begin : begins_at format (seat_in at.seats told.thread).least at.position told.begun ≡ false → IsNoCall callers format program at text
     no_begin never reader call begun end at_reader next =
         let e = sym never ∙ (of_told reader call begun end at_reader next).begins in absurd (cc)
 
-    -- the call may be the next one, and there is no other
+    -- the call may be the next one, and no other call may
     pub only_of : (this : CallRef) → IsThread callers program this.thread → IsSound callers program at →
         begins_at format (seat_in at.seats told.thread).least at.position told.begun ≡ true →
         this.thread ≡ told.thread → this.step ≡ (seat_in at.seats told.thread).called → this.begun ≡ told.begun →
@@ -163,7 +163,7 @@ module _ (callers : Callers) (format : Format) (program : Typed) (at : Progress)
 
 module _ (format : Format) (program : Typed) (at : Progress) (text : List ℕ) (well : IsChecked program) (small : at.position < 2 ^ 63)
     (told : Told) (is : told_in format text ≡ Some told) where
-  -- the call that its script has
+  -- the call is the one in the script
   here_found : (reader : Reader) (call : Scheduled) (begun : ℕ) (end : List ℕ) → IsAt program at reader →
       IsNextCall Scripts format program reader.order text call begun end →
       (found : Call) × (call_in program told.thread (called_at at.seats told.thread) ≡ Some found) × (call.call ≡ invocation found)
@@ -177,13 +177,13 @@ module _ (format : Format) (program : Typed) (at : Progress) (text : List ℕ) (
         ap (λ (s : Scheduled). s.call) (sym found.2),
       )
 
-  -- it has no further call
+  -- the script has no further call
   pub no_call : call_in program told.thread (seat_in at.seats told.thread).called ≡ None → IsNoCall Scripts format program at text
   no_call none reader call begun end at_reader next =
       let found = here_found reader call begun end at_reader next in
       let e = sym none ∙ found.1 in absurd (cc)
 
-  -- the thread's next call may begin so
+  -- the thread's next call may have this begin
   pub only_call : (this : CallRef) (call : Call) → IsSound Scripts program at →
       call_in program told.thread (seat_in at.seats told.thread).called ≡ Some call →
       begins_at format (seat_in at.seats told.thread).least at.position told.begun ≡ true →
@@ -214,14 +214,14 @@ module _ (format : Format) (program : Typed) (at : Progress) (text : List ℕ) (
 
 module _ (format : Format) (program : Typed) (at : Progress) (text : List ℕ) (well : IsChecked program) (small : at.position < 2 ^ 63)
     (told : Told) (is : told_in format text ≡ Some told) where
-  -- its thread has no number of 32 bits
+  -- the number of the thread does not fit in 32 bits
   pub no_thread : 2 ^ 32 ≤ told.thread → IsNoCall Anyone format program at text
   no_thread past reader call begun end at_reader next =
       let thread = (of_told Anyone format program at text well small told is reader call begun end at_reader next).thread in
       let bound = next.next.thread in
       absurd (omega (arith, past, thread, bound))
 
-  -- the call that was told can't be made
+  -- the call of the line can't be made
   pub no_fit : (c : Invocation) → invocation_in program (invoked_text format text) ≡ Some c →
       (CanCall program c.section c.arguments → ⊥) → IsNoCall Anyone format program at text
   no_fit c said never reader call begun end at_reader next =
@@ -229,7 +229,7 @@ module _ (format : Format) (program : Typed) (at : Progress) (text : List ℕ) (
       let same : c ≡ call.call = cc in
       never (subst (λ (x : Invocation). CanCall program x.section x.arguments) (sym same) next.next.fits)
 
-  -- it can be made, by its thread, and may begin so
+  -- the call can be made by the thread, and may have this begin
   pub only_open : (this : CallRef) → IsSound Anyone program at →
       begins_at format (seat_in at.seats told.thread).least at.position told.begun ≡ true →
       this.thread ≡ told.thread → this.step ≡ (seat_in at.seats told.thread).called → this.begun ≡ told.begun →
@@ -260,7 +260,7 @@ module _ (format : Format) (program : Typed) (at : Progress) (text : List ℕ) (
       sym (call_told format program reader.order text other begun end next) ∙ said in
       cc)
 
--- the line tells no call
+-- the line has no call
 pub no_invocation : (format : Format) (program : Typed) (at : Progress) (text : List ℕ) →
     invocation_in program (invoked_text format text) ≡ None → IsNoCall Anyone format program at text
 no_invocation format program at text none reader call begun end at_reader next =
@@ -268,14 +268,14 @@ no_invocation format program at text none reader call begun end at_reader next =
 
 -- ---- the head
 
--- the line begins so
+-- the line begins with the word
 pub begins_so : (word text : List ℕ) → begins word text ≡ true → (rest : List ℕ) × (text ≡ word ++ rest)
 begins_so word text so = (drop (length word) text, (starts_is Decides-eqb text word (begins word text) refl).0 so)
 
 pub begins_with : (word text rest : List ℕ) → text ≡ word ++ rest → begins word text ≡ true
 begins_with word text rest is = (starts_is Decides-eqb text word (begins word text) refl).1 rest is
 
--- a line that does not begin as the only call's is of no call
+-- a line that does not begin as the line of the only call is not the line of a call
 pub no_head : (callers : Callers) (format : Format) (program : Typed) (at : Progress) (text written : List ℕ) (this : CallRef) →
     IsOnlyCall callers format program at text this →
     written ≡ call_head format program (scheduled_called this) this.begun → begins written text ≡ false → IsNoCall callers format program at text

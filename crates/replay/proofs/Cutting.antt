@@ -1,4 +1,4 @@
--- What stands before and behind the first byte of a kind, where more is put behind the text.
+-- The parts of a text before and after the first byte of a kind, if more is appended.
 use Rattle.std.proofs.Common.{◌≡◌, ◌∙◌, ◌<◌, ◌+◌, ℕ, Bool, true, false, List, [], ◌∷◌, ◌++◌, length, take, drop, arith, sym, ap, ap₂}
 use Rattle.std.proofs.Common.{refl, append_assoc, length-append, subst, Some}
 use Rattle.core_lang.specs.Typing.{lookup}
@@ -42,12 +42,12 @@ module _ (byte : ℕ) (xs ys : List ℕ) (has : Has byte xs) where
   pub behind_kept : behind byte (xs ++ ys) ≡ behind byte xs ++ ys
   behind_kept = ap (λ n. drop (n + 1) (xs ++ ys)) place_kept ∙ drop-append-le _ xs ys (omega (arith, has))
 
--- ---- what is called
+-- ---- invocations
 
 abbrev tells : Typed → List ℕ → List ℕ → Type 0
 tells program text other = invocation_in program text ≡ invocation_in program other
 
--- the text of what is called, without its last bracket
+-- the text of an invocation, without its last bracket
 abbrev pub open_text : Typed → ℕ → List Value → List ℕ
 open_text program section arguments = section_name program section ++ 40 ∷ values_text program.shape arguments
 
@@ -61,7 +61,7 @@ told_alike program text other name inside =
     ap₂ (λ (n i : List ℕ). lookup (section_named program n) (λ section. lookup (arguments_in program.shape i)
     (λ arguments. Some (record { section = section; arguments = arguments })))) name inside
 
--- what stands behind the text of what is called changes nothing of what it tells
+-- text after an invocation does not change how the invocation is read
 pub invocation_kept : (program : Typed) (section : ℕ) (arguments : List Value) (more : List ℕ) →
     invocation_in program (invocation_text program section arguments ++ more)
     ≡ invocation_in program (invocation_text program section arguments)

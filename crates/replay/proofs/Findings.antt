@@ -1,4 +1,4 @@
--- What is found of a line.
+-- The finding about a line.
 use Rattle.std.proofs.Common.{◌≡◌, ◌∙◌, ℕ, true, List, [], ◌∷◌, ◌++◌, sym, ap, refl}
 use Rattle.std.specs.Prelude.{codes}
 use Rattle.core_lang.specs.declared.typed.Typed.{Typed}
@@ -35,7 +35,7 @@ module _ (turns : ℕ) (callers : Callers) (format : Format) (program : Typed) w
     not_unsettled = λ u. let e = sym u.among.none_due ∙ is in absurd (cc);
   }
 
-  -- ---- where nothing may come
+  -- ---- where no line may come
 
   over_comes : (reader after : Reader) (text : List ℕ) → reader.due ≡ [] → reader.closed ≡ true →
       Comes turns callers format program reader after text → ⊥
@@ -84,7 +84,7 @@ module _ (turns : ℕ) (callers : Callers) (format : Format) (program : Typed) w
 
   -- ---- the only call of a line
 
-  -- how the run of the call ended is not what the line tells
+  -- the end of the call's run differs from that of the line
   other_end_comes : (reader after : Reader) (text : List ℕ) (s : Scheduled) (head : List ℕ) (finished : Finished) →
       reader.due ≡ [] → (text ≡ codes "cells" → ⊥) →
       ((t : Scheduled) (begun : ℕ) (end : List ℕ) → IsNextCall callers format program reader.order text t begun end →

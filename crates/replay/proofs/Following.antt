@@ -36,7 +36,7 @@ other_pushed t done e apart =
     let test = ne_eqb e.thread t apart in
     filter-append _ done (e ∷ []) ∙ rw test (append-nil (of_thread t done))
 
--- as many as are counted
+-- the count of a thread's calls is the length of the list of them
 counted : (t : ℕ) (done : List Entry) → length (of_thread t done) ≡ calls_by t (order_of done)
 counted t [] = refl
 counted t (e ∷ done) = elim (cases_eq e.thread t) [
@@ -56,7 +56,7 @@ counted t (e ∷ done) = elim (cases_eq e.thread t) [
       omega (arith, h, first, all, long)
 ]
 
--- calls that follow one another, to the last one that must come
+-- each call is the next one after those before it, and after the last one no call is missing
 abbrev pub Follow : Callers → Format → Typed → List ℕ → List Entry → Type 0
 Follow callers format program order [] = AllCalled callers program order
 Follow callers format program order (e ∷ es) =
@@ -78,7 +78,7 @@ module _ (callers : Callers) (format : Format) (program : Typed) where
       subst (λ xs. MayBegin format (order_of xs) e.thread e.begun) (append_assoc done (x ∷ []) (take k es))
       (begins_from (done ++ x ∷ []) es (subst (λ o. Follow callers format program o es) (order_pushed done x) follow.2) k e is)
 
-  -- they begin as they may
+  -- calls that follow one another begin as they may
   pub follow_begins : (es : List Entry) → Follow callers format program [] es → BeginAsTheyMay format es
   follow_begins es follow k e is = begins_from [] es follow k e is
 
@@ -88,7 +88,7 @@ module _ (format : Format) (program : Typed) where
   abbrev Scripted : List ℕ → List Entry → Type 0
   Scripted order es = Follow Scripts format program order es
 
-  -- of each thread the first calls of its script are done
+  -- the calls of each thread are the first calls of its script
   abbrev pub AreFirst : List Entry → Type 0
   AreFirst done = (t : ℕ) → map scheduled_in (of_thread t done) ≡ take (calls_by t (order_of done)) (script_of program t)
 
@@ -118,7 +118,7 @@ module _ (format : Format) (program : Typed) where
       ap (λ xs. map scheduled_in (of_thread t xs)) (sym (append_assoc done (e ∷ []) es))
       ∙ scripts_from (done ++ e ∷ []) es (first_pushed done e first follow.0) (subst (λ o. Scripted o es) (order_pushed done e) follow.2) t
 
-  -- they are those of the scripts
+  -- calls that follow one another are the calls of the scripts
   pub follow_scripts : (es : List Entry) → Scripted [] es → FollowScripts program es
   follow_scripts es follow = scripts_from [] es (λ t. refl) follow
 
@@ -151,7 +151,7 @@ module _ (format : Format) (program : Typed) where
           ∙ ap (slice_get (map scheduled_in (of_thread e.thread done) ++ scheduled_in e ∷ map scheduled_in (of_thread e.thread es))) (sym place)
           ∙ behind_at (map scheduled_in (of_thread e.thread done)) (scheduled_in e) (map scheduled_in (of_thread e.thread es))
 
-  -- calls of the scripts that begin as they may follow one another
+  -- the calls of the scripts that begin as they may follow one another
   pub scripts_follow : (es : List Entry) → FollowScripts program es → BeginAsTheyMay format es → Scripted [] es
   scripts_follow es scripts begins = follows_from [] es scripts (λ k e is. begins k e is)
 
@@ -183,7 +183,7 @@ module _ (format : Format) (program : Typed) where
         (λ k x is. subst (λ xs. MayBegin format (order_of xs) x.thread x.begun) (sym (append_assoc done (e ∷ []) (take k es))) (begins (suc k) x is))),
   )
 
--- ---- whoever calls
+-- ---- callers of either kind
 
 pub follow_calls : (callers : Callers) (format : Format) (program : Typed) (es : List Entry) → Follow callers format program [] es →
     AreCalls callers program es

@@ -1,4 +1,4 @@
--- What the head of a call's line tells.
+-- The parts of the head of a call's line.
 use Rattle.std.proofs.Common.{◌≡◌, ◌∙◌, ◌<◌, ◌^◌, ℕ, List, [], ◌∷◌, ◌++◌, drop, Option, Some, ap, refl, append_assoc, true}
 use Rattle.std.proofs.Common.{false, get_or}
 use Rattle.std.specs.Prelude.{codes, ◌==◌}
@@ -17,7 +17,7 @@ use Rattle.core_lang.specs.Typing.{lookup}
 use Rattle.replay.specs.declared.told.Told.{Told}
 use Rattle.replay.specs.Told.{begun_in, told_after, told_in, invoked_text}
 
--- what comes after the numbers of a call
+-- the text after the numbers of a call
 abbrev pub invoked : Typed → Scheduled → List ℕ → List ℕ
 invoked program s end = invocation_text program s.call.section s.call.arguments ++ 32 ∷ end
 
@@ -27,12 +27,12 @@ pub head_words : (format : Format) (program : Typed) (s : Scheduled) (begun : �
     ≡ codes "call " ++ (decimal s.thread ++ 32 ∷ (decimal s.step ++ 32 ∷ (begun_text format begun ++ invoked program s end)))
 head_words format program s begun end = simp append_assoc
 
--- what its begin is told as
+-- the begin that the line has: format 1 has none
 abbrev pub shown : Format → ℕ → ℕ
 shown One begun = 0
 shown Two begun = begun
 
--- a begin that can be read, where it is told
+-- a begin that can be read, in a format that has it
 abbrev pub IsShort : Format → ℕ → Type 0
 IsShort One begun = ⊤
 IsShort Two begun = begun < 2 ^ 63
@@ -44,7 +44,7 @@ begun_read Two begun rest short =
     ap (λ text. count_in (before 32 text)) (append_assoc (decimal begun) (32 ∷ []) rest)
     ∙ ap count_in (before-count begun rest short) ∙ count_in-decimal begun short
 
--- numbers that are told, if all are
+-- the numbers of a line, if all can be read
 abbrev numbers : Option ℕ → Option ℕ → Option ℕ → Option Told
 numbers thread step begun =
     lookup thread (λ t. lookup step (λ k. lookup begun (λ b. Some (record { thread = t; step = k; begun = b }))))
@@ -74,7 +74,7 @@ module _ (format : Format) (thread step begun : ℕ) (rest : List ℕ) (small : 
       ∙ ap (λ x. numbers (Some thread) x (begun_in format (behind 32 (behind 32 line)))) k
       ∙ ap (numbers (Some thread) (Some step)) b
 
--- a call's line tells its thread, its number and its begin
+-- the line of a call has its thread, its number and its begin
 pub told_head : (format : Format) (program : Typed) (s : Scheduled) (begun : ℕ) (end : List ℕ) → s.thread < 2 ^ 63 →
     s.step < 2 ^ 63 →
     IsShort format begun →
@@ -84,7 +84,7 @@ told_head format program s begun end small few short =
     ap (told_in format) (head_words format program s begun end)
     ∙ told_words format s.thread s.step begun (invoked program s end) small few short
 
--- and what is called
+-- the line of a call has its invocation
 pub invoked_head : (format : Format) (program : Typed) (s : Scheduled) (begun : ℕ) (end : List ℕ) → s.thread < 2 ^ 63 →
     s.step < 2 ^ 63 →
     IsShort format begun →
@@ -98,7 +98,7 @@ invoked_head Two program s begun end small few short =
     ∙ append_assoc (decimal begun) (32 ∷ []) (invoked program s end))
     ∙ behind-count begun (invoked program s end) short
 
--- the thread alone
+-- the line of a call has its thread
 pub thread_head : (format : Format) (program : Typed) (s : Scheduled) (begun : ℕ) (end : List ℕ) → s.thread < 2 ^ 63 →
     count_in (before 32 (drop 5 (call_head format program s begun ++ end))) ≡ Some s.thread
 thread_head format program s begun end small =

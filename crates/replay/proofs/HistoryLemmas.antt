@@ -1,4 +1,4 @@
--- Lines that come are those of a history, and the other way round.
+-- The lines that may come are those of a history, and conversely.
 use Rattle.std.proofs.Common.{◌≡◌, ◌∙◌, ◌≤◌, ℕ, ◌+◌, true, false, List, [], ◌∷◌, ◌++◌, map, arith, sym, ap, refl}
 use Rattle.std.proofs.Common.{subst, append_assoc, append-nil}
 use Rattle.std.specs.Prelude.{codes}
@@ -22,7 +22,7 @@ use Rattle.replay.proofs.Following.{Follow, follow_calls, follow_begins, calls_f
 -- ---- runs
 
 module _ (turns : ℕ) (program : Typed) where
-  -- the turns settle the calls, one after another from a heap, and these leave the last one
+  -- the turns settle the calls, run one after another from `heap`, and the heap after them is `last`
   abbrev pub Settled : List Value → List Entry → List Value → Type 0
   Settled heap [] last = heap ≡ last
   Settled heap (e ∷ es) last =
@@ -54,7 +54,7 @@ module _ (turns : ℕ) (program : Typed) where
   with_run e es heap Beyond_turns is rest none ends = absurd (cc)
   with_run e es heap Gone_astray is rest none ends = absurd (cc)
 
-  -- calls that the turns settle, as they run serially
+  -- calls that a serial run settles are settled one after another
   pub serial_settled : (es : List Entry) (heap : List Value) →
       (serial_with program turns heap (map invocation_in es)).unsettled ≡ [] →
       map ended_in es ≡ (serial_with program turns heap (map invocation_in es)).ends →
@@ -63,7 +63,7 @@ module _ (turns : ℕ) (program : Typed) where
   serial_settled (e ∷ es) heap none ends =
       with_run e es heap (run_call program turns (invocation_in e) heap) refl (λ next. serial_settled es next) none ends
 
--- with turns enough calls that run whole are settled
+-- if the turns are enough, calls that are run whole are settled
 enough_turns : MoreTurnsChangeNothing → (program : Typed) (heap last : List Value) (es : List Entry) →
     Serial program heap (map invocation_in es) (map ended_in es) last →
     (enough : ℕ) × ((turns : ℕ) → enough ≤ turns → Settled turns program heap es last)
@@ -88,11 +88,11 @@ enough_turns law program heap last (e ∷ es) serial =
 -- ---- lines
 
 module _ (turns : ℕ) (callers : Callers) (format : Format) (program : Typed) where
-  -- lines that are left
+  -- the remaining lines
   abbrev lines_left : List Entry → List Value → List (List ℕ)
   lines_left es last = flat_map (entry_lines format program) es ++ codes "cells" ∷ closing_lines program last
 
-  -- the calls that are left, where these lines come
+  -- the remaining calls, if these lines come
   record AreLeft (reader : Reader) (lines : List (List ℕ)) : Type 0 where
     entries : List Entry
     last : List Value
@@ -152,9 +152,9 @@ module _ (turns : ℕ) (callers : Callers) (format : Format) (program : Typed) w
         }
   ]
 
-  -- ---- and back
+  -- ---- the converse
 
-  -- lines that are due come
+  -- lines that are due may come
   due_come : (dues more : List (List ℕ)) (reader final : Reader) → reader.due ≡ dues →
       Come turns callers format program (record reader { due = [] }) more final →
       Come turns callers format program reader (dues ++ more) final
@@ -209,7 +209,7 @@ module _ (turns : ℕ) (callers : Callers) (format : Format) (program : Typed) w
         ended = rest.ended;
       }
 
-  -- lines of calls that follow one another, and that the turns settle, are the same
+  -- the verdict `same` holds for the lines of calls that follow one another and are settled
   pub settled_same : (es : List Entry) (last : List Value) → AreCalls callers program es → BeginAsTheyMay format es →
       Settled turns program (opening_heap program) es last → IsSame turns callers format program (history_lines format program es last)
   settled_same es last calls begins settled =

@@ -1,4 +1,4 @@
--- What the numbers of a line lack, by the seats.
+-- The calls that the numbers of a line show to be missing, by the seats.
 use Rattle.std.proofs.Common.{◌≡◌, ◌∙◌, ◌<◌, ◌^◌, ℕ, true, false, List, [], ◌∷◌, length, slice_get, Some, arith, sym, refl, subst}
 use Rattle.replay.specs.Told.{told_in}
 use Rattle.std.specs.BTreeMap.{BTreeMap}
@@ -36,7 +36,7 @@ module _ (seats : BTreeMap ℕ ThreadProgress) (order : List ℕ) (are : AreSeat
     begins = begins_allowed format seats order told.thread told.begun position are is may;
   }
 
--- what numbers lack, the line lacks
+-- a line lacks what its numbers lack
 pub number_lacks : (format : Format) (program : Typed) (order text : List ℕ) (told : Told) (missing : Lack) →
     LacksNumber format order told missing → told_in format text ≡ Some told → LacksSo format program order text missing
 number_lacks format program order text told lack.Thread lacks is = (told, is, lacks)
@@ -46,7 +46,7 @@ number_lacks format program order text told (lack.Form of) lacks is = absurd lac
 number_lacks format program order text told lack.Section lacks is = absurd lacks
 number_lacks format program order text told lack.Arguments lacks is = absurd lacks
 
--- and the first of the lines
+-- the lines lack what the first of them lacks
 pub first_lacks : (format : Format) (program : Typed) (order text : List ℕ) (lines : List (List ℕ)) (missing : Lack) →
     slice_get lines 0 ≡ Some text → LacksSo format program order text missing → Lacks format program order lines missing
 first_lacks format program order text [] missing is lacks = absurd (cc)

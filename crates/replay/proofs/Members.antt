@@ -1,4 +1,4 @@
--- What texts tell of values.
+-- The values that texts stand for.
 use Rattle.std.proofs.Common.{◌≡◌, ◌∙◌, ◌<◌, ◌≤◌, ◌+◌, ℕ, Bool, false, List, [], ◌∷◌, ◌++◌, length, take, drop, slice_get}
 use Rattle.std.proofs.Common.{Option, Some, None, arith, sym, ap, refl, append_assoc, inl, inr}
 use Rattle.std.proofs.lemmas.Bool.{cases_lt}
@@ -21,7 +21,7 @@ use Rattle.replay.specs.Told.{and_values, arguments_in, member_of, object_in, po
 
 -- ---- members of pools
 
--- the number of a member is one of few
+-- the index of a member is below a bound
 pub member_few : (program : Typed) (p : ℕ) (pool : Pool) (index : ℕ) → IsChecked program →
     slice_get program.shape.pools.items p ≡ Some pool → index < pool.length → pool.first + index < 65536
 member_few program p pool index well here less =
@@ -53,7 +53,7 @@ abbrev pub comma : ℕ → Bool
 comma b = b == 44
 
 module _ (shape : Shape) (rest : List ℕ) (place : ℕ) (is : place ≡ position_or_len comma rest) where
-  -- no piece is the last one where there is a comma
+  -- a piece that a comma follows is not the last one
   pub split_more : place < length rest → slice_split comma rest ≡ take place rest ∷ slice_split comma (drop (place + 1) rest)
   split_more some = rw is (slice_split_first comma rest 0 (rw is at some))
 
@@ -84,7 +84,7 @@ module _ (shape : Shape) (rest : List ℕ) (place : ℕ) (is : place ≡ positio
       ap (values_in shape) (split_more less)
       ∙ ap (λ v. lookup v (λ value. and_values value (values_in shape (slice_split comma (drop (place + 1) rest))))) some
 
--- values behind those so far
+-- values after those so far
 abbrev pub behind_all : List Value → Option (List Value) → Option (List Value)
 behind_all done more = option_map (λ values. done ++ values) more
 

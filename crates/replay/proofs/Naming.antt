@@ -1,4 +1,4 @@
--- Lines that are of no next call.
+-- Lines that are not lines of a next call.
 use Rattle.std.proofs.Common.{◌≡◌, ◌∙◌, ℕ, true, List, [], ◌∷◌, sym}
 use Rattle.std.specs.Prelude.{codes}
 use Rattle.core_lang.specs.declared.typed.Typed.{Typed}
@@ -11,12 +11,12 @@ use Rattle.replay.specs.Wanted.{NamesNone}
 use Rattle.replay.proofs.Heads.{head_not_cells}
 
 module _ (callers : Callers) (format : Format) (program : Typed) (reader : Reader) where
-  -- where a line is due
+  -- a line is due
   pub due_names_none : (text line : List ℕ) (more : List (List ℕ)) → reader.due ≡ line ∷ more →
       NamesNone callers format program reader (text ∷ [])
   due_names_none text line more is call begun names = let e = sym names.0.none_due ∙ is in absurd (cc)
 
-  -- after `cells`
+  -- the line `cells` has come
   pub closed_names_none : (text : List ℕ) → reader.closed ≡ true → NamesNone callers format program reader (text ∷ [])
   closed_names_none text closed call begun names = let e = sym closed ∙ names.0.still_open in absurd (cc)
 

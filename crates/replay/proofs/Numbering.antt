@@ -7,7 +7,7 @@ use Rattle.replay.specs.declared.names.Numbers.{Numbers}
 use Rattle.replay.specs.Told.{first_named}
 use Rattle.replay.specs.Working.Names.{found, IsWithName, AreNumbersOf}
 
--- the numbers of so many names from the end
+-- the numbers of the last `many` names
 pub record AreLast (names : List (List ℕ)) (many : ℕ) (numbers : Numbers) : Type 0 where
   pub from : ℕ
   pub all : from + many ≡ length names

@@ -1,4 +1,4 @@
--- One verdict holds at most.
+-- At most one verdict holds.
 use Rattle.std.proofs.Common.{◌≡◌, ◌∙◌, ℕ, suc, false, List, [], ◌∷◌, ◌++◌, length, drop, Some, arith, sym, ap, refl}
 use Rattle.std.proofs.Common.{subst, append-nil}
 use Rattle.core_lang.specs.declared.typed.Typed.{Typed}
@@ -18,7 +18,7 @@ use Rattle.replay.specs.Verdicts.{HasEnded, Stops, IsSame, IsDiffering, IsBeyond
 use Rattle.replay.specs.Working.Laws.{AtMostOneVerdict}
 use Rattle.replay.proofs.Heads.{thread_head, head_not_cells}
 
--- two next calls of one thread whose lines read so are the same
+-- two next calls of one thread whose lines are read alike are the same
 same_next : (callers : Callers) (format : Format) (program : Typed) (order text : _) (s t : Scheduled) (begun other : ℕ) (end tail : List ℕ) →
     IsNextCall callers format program order text s begun end → IsNextCall callers format program order text t other tail →
     s.thread ≡ t.thread → s ≡ t
@@ -48,7 +48,7 @@ module _ (turns : ℕ) (callers : Callers) (format : Format) (program : Typed) (
       let e : Some s.thread ≡ Some t.thread = sym (thread_told order text s begun end p) ∙ thread_told order text t other tail q in
       cc
 
-  -- a line is of one call
+  -- a line is the line of at most one call
   same_call : (order text : _) (s t : Scheduled) (begun other : ℕ) (end tail : List ℕ) →
       IsNextCall callers format program order text s begun end →
       IsNextCall callers format program order text t other tail → s ≡ t
@@ -87,7 +87,7 @@ module _ (turns : ℕ) (callers : Callers) (format : Format) (program : Typed) (
       absurd (head_not_cells format program (scheduled_in q.entry) q.entry.begun _ (sym p.is_cells ∙ q.next.told))
   comes_is_one reader a b text (cells p) (cells q) = p.leads ∙ sym q.leads
 
-  -- a line that may come is of no call that is not settled
+  -- a line that may come is not that of a call that the turns don't settle
   pub unsettled_comes : (reader after : Reader) (text : List ℕ) → IsUnsettled turns callers format program reader text →
       Comes turns callers format program reader after text → ⊥
   unsettled_comes reader after text u (due p) = let e = sym u.among.none_due ∙ p.is_due in absurd (cc)
@@ -100,7 +100,7 @@ module _ (turns : ℕ) (callers : Callers) (format : Format) (program : Typed) (
 
   -- ---- where a reader stops
 
-  -- no line may come of those that are left
+  -- none of the remaining lines may come
   abbrev IsBlocked : Reader → List (List ℕ) → Type 0
   IsBlocked reader [] = Unit {0}
   IsBlocked reader (text ∷ more) = (after : Reader) → Comes turns callers format program reader after text → ⊥

@@ -1,4 +1,4 @@
--- What is the same where the scripts call, is the same where anyone may call.
+-- A claim that holds if the scripts call holds if anyone may call.
 use Rattle.std.proofs.Common.{◌≡◌, ◌∙◌, ◌<◌, ◌+◌, ◌^◌, ℕ, List, [], ◌∷◌, length, Some, arith, ap, subst}
 use Rattle.std.proofs.lemmas.List.{length_push}
 use Rattle.core_lang.specs.declared.typed.Typed.{Typed}

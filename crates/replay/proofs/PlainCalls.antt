@@ -1,4 +1,4 @@
--- In a program with plain names each call is told by its text.
+-- In a program with plain names, the text of a call determines the call.
 use Rattle.std.proofs.Common.{◌≡◌, ◌∙◌, ◌<◌, ◌≤◌, ◌+◌, ◌-◌, ◌^◌, ℕ, ℤ, zero, suc, pos, negsuc, Bool, true, false, List, [], ◌∷◌, ◌++◌}
 use Rattle.std.proofs.Common.{length, take, drop, get_or, map, slice_get, Option, Some, None, arith, sym, ap, refl, subst, string_bytes, inl, inr}
 use Rattle.std.proofs.Common.{append_assoc, append-nil, length-append}
@@ -100,7 +100,7 @@ name_bytes (first ∷ rest) is =
     let more : list_all is_name_byte rest ≡ true = (and_parts _ _ parts.1).0 in
     rw (byte, more) refl
 
--- the first that bears a name, where no two are alike
+-- the first name of a list is at its index, if no other index has it
 first_is : (names : List (List ℕ)) (from k : ℕ) (name : List ℕ) → slice_get names k ≡ Some name →
     ((j : ℕ) → slice_get names j ≡ Some name → j ≡ k) → first_named from names name ≡ Some (from + k)
 first_is [] from k name here one = absurd (cc)
@@ -190,7 +190,7 @@ number_told (negsuc n) fit =
 
 -- ---- the bytes of values
 
--- letters, digits and what else is in values
+-- the bytes of values: letters, digits and a few signs
 abbrev pub is_plain : ℕ → Bool
 is_plain b = is_name_byte b || ((b == 45) || ((b == 91) || (b == 93)))
 
@@ -286,7 +286,7 @@ module _ (name : List ℕ) (named : is_name name ≡ true) (index : ℕ) (small 
 
 -- ---- values
 
--- the text of a value that is told by it
+-- the value that a text stands for is read back from it
 pub record IsValueTold (shape : Shape) (value : Value) : Type 0 where
   pub told : value_in shape (value_text shape value) ≡ Some value
   pub plain : list_all is_plain (value_text shape value) ≡ true

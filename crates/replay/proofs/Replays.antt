@@ -1,4 +1,4 @@
--- A history that was read up to one of its lines.
+-- A history that was read up to a line.
 use Rattle.std.proofs.Common.{◌≡◌, ◌∙◌, ◌≤◌, ◌+◌, ℕ, List, [], ◌∷◌, ◌++◌, arith, sym, refl, subst, Option, Some}
 use Rattle.std.proofs.Common.{append_assoc, append-nil}
 use Rattle.std.specs.Prelude.{codes}
@@ -22,7 +22,7 @@ use Rattle.replay.specs.Wanted.{IsWanted, IsWantedAt, Explains}
 use Rattle.replay.specs.Working.Reading.{EndsAs, IsAt, IsSound, Reads}
 use Rattle.replay.proofs.Steps.{at_stage, closed_at}
 
--- the lines up to the one with this number came
+-- the lines before the line of this number came
 pub record HasRead (turns : ℕ) (callers : Callers) (format : Format) (program : Typed) (lines : List (List ℕ)) (number : ℕ) (rest : List (List ℕ)) (at : Progress) : Type 0 where
   pub reader : Reader
   pub reached : Reaches turns callers format program lines number reader rest
@@ -94,7 +94,7 @@ module _ (turns : ℕ) (callers : Callers) (format : Format) (program : Typed) w
       IsWantedAt turns callers format program lines number wanted
   wanted_at lines rest number reader wanted reached may = record { reader = reader; rest = rest; reached = reached; may_come = may }
 
-  -- a line differs, and this is told of it
+  -- a line differs, and this difference is reported
   pub explained : (lines : List (List ℕ)) (number : ℕ) (wanted : Wanted) (verdict : Verdict) (told : Option Wanted) →
       verdict ≡ Differs number →
       told ≡ Some wanted → IsWantedAt turns callers format program lines number wanted → Explains turns callers format program lines verdict told
@@ -142,7 +142,7 @@ module _ (turns : ℕ) (callers : Callers) (format : Format) (program : Typed) w
     ended_holds (Ok judgement) ends = (ends read.reader lines read.is read.reached).0
     ended_holds (Err error) ends = tt
 
-    -- and what is told of them
+    -- the verdict at the end explains what is reported
     pub ended_explains : (result : Result Judgement E) → IfOk result (EndsAs turns callers format program at number) →
         IfOk result (λ judgement. Explains turns callers format program lines judgement.verdict judgement.wanted)
     ended_explains (Ok judgement) ends = (ends read.reader lines read.is read.reached).1

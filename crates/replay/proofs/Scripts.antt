@@ -29,7 +29,7 @@ pub script_length : (t step : ℕ) (calls : List Call) → length (script_from t
 script_length t step [] = refl
 script_length t step (call ∷ calls) = ap suc (script_length t (step + 1) calls)
 
--- a thread's calls are among all
+-- the calls of a thread are among all calls
 pub together : (threads : List Thread) (t : ℕ) (thread : Thread) → slice_get threads t ≡ Some thread →
     length thread.calls.items ≤ calls_together threads
 together [] t thread is = absurd (cc)
@@ -78,7 +78,7 @@ call_found t n (Some thread) =
     let e : 0 + n ≡ n = omega arith in
     script_get t 0 thread.calls.items n ∙ ap (λ k. option_map (scheduled_at t k) (slice_get thread.calls.items n)) e
 
--- the next call of a thread is the one in its script that is counted
+-- the next call of a thread is at the index that counts its calls so far
 pub next_call_in : (program : Typed) (order : List ℕ) (t : ℕ) →
     next_call program order t ≡ option_map (scheduled_at t (calls_by t order)) (call_in program t (calls_by t order))
 next_call_in program order t = call_found t (calls_by t order) (slice_get program.threads.items t)

@@ -20,14 +20,14 @@ use Rattle.replay.specs.Working.Seats.{IsWithSeat, empty_seat, seat_in}
 
 -- ---- counting
 
--- one call more of a thread
+-- one more call of a thread
 pub calls_by_one : (t u : ℕ) (order : List ℕ) → u ≡ t → calls_by t (order ++ u ∷ []) ≡ calls_by t order + 1
 calls_by_one t u order same =
     let test = eq-eqb u t same in
     let one : calls_by t (u ∷ []) ≡ 1 = rw test refl in
     sum_by-append _ order (u ∷ []) ∙ rw one refl
 
--- and none more of another
+-- the count of another thread stays
 pub calls_by_other : (t u : ℕ) (order : List ℕ) → (u ≡ t → ⊥) → calls_by t (order ++ u ∷ []) ≡ calls_by t order
 calls_by_other t u order apart =
     let test = ne_eqb u t apart in
@@ -88,11 +88,11 @@ module _ (old new : BTreeMap ℕ ThreadProgress) (order : List ℕ) (t : ℕ) (s
         (λ after. let h = kept.0 (other.0 after) in omega (arith, h, there), λ most. other.1 (kept.1 (omega (arith, most, there))))
   ]
 
-  -- a call more of a thread
+  -- one more call of a thread
   pub seats_next : seat.called ≡ called_at old t + 1 → seat.least ≡ length order + 1 → AreSeats new (order ++ t ∷ [])
   seats_next more least = record { called = called_next more; least = least_next least }
 
--- and what is sound of them
+-- the bounds of the seats after the call
 module _ (old new : BTreeMap ℕ ThreadProgress) (t : ℕ) (seat : ThreadProgress) (with : IsWithSeat t seat old new) where
   pub few_next : (position : ℕ) → ((u : ℕ) → called_at old u ≤ position) → seat.called ≤ position + 1 → (u : ℕ) →
       called_at new u ≤ position + 1

@@ -1,4 +1,4 @@
--- The serial run of a program is a history; histories with their calls in one order are alike.
+-- The serial run of a program is a history, and histories with one order of calls are equal.
 use Rattle.std.proofs.Common.{◌≡◌, ◌∙◌, ◌<◌, ℕ, ◌+◌, zero, suc, Bool, List, [], ◌∷◌, ◌++◌, map, slice_get, Option}
 use Rattle.std.proofs.Common.{arith, sym, ap, refl, subst, append-nil, inl, inr}
 use Rattle.std.specs.Prelude.{◌==◌, filter}
@@ -36,7 +36,7 @@ other_script t u step (c ∷ calls) apart =
     let test = ne_eqb u t apart in
     rw test (other_script t u (step + 1) calls apart)
 
--- none of threads that come later
+-- a thread has no calls in the scripts of later threads
 later_scripts : (threads : List Thread) (t u : ℕ) → t < u → filter (by t) (scripts_from u threads) ≡ []
 later_scripts [] t u later = refl
 later_scripts (x ∷ threads) t u later =

@@ -1,4 +1,4 @@
--- A line further: what is due, and where a reader then is.
+-- One line further: the lines that are due, and the state of the reader.
 use Rattle.std.proofs.Common.{◌≡◌, ◌∙◌, ◌<◌, ◌≤◌, ◌+◌, ℕ, ℤ, true, false, List, [], ◌∷◌, ◌++◌, length, drop, get_or}
 use Rattle.std.proofs.Common.{arith, sym, ap, refl, inl, inr}
 use Rattle.std.specs.Prelude.{codes}
@@ -48,7 +48,7 @@ reads_so text word so = (bytes_eq-Decides text word).0 so
 pub reads_otherwise : (text word : List ℕ) → bytes_eq text word ≡ false → text ≡ word → ⊥
 reads_otherwise text word never is = false≢true (sym never ∙ (bytes_eq-Decides text word).1 is)
 
--- the line of a cell, as it was written after nothing
+-- the line of a cell, appended to an empty text
 pub cell_told : (program : Typed) (cell : Cell) (held heap : List Value) (number : ℕ) (d : Value) (old new : List ℕ) →
     held ≡ heap →
     number < length heap → new ≡ old ++ cell_line program cell (get_or held number d) → old ≡ [] →
@@ -100,7 +100,7 @@ module _ (program : Typed) (at : Progress) (reader : Reader) (is : IsAt program 
 
 -- ---- all calls
 
--- the seats count all that must come, where all came
+-- if all calls came, the seats count all calls that must come
 pub all_called : (callers : Callers) (program : Typed) (seats : BTreeMap ℕ ThreadProgress) (order : List ℕ) → AreSeats seats order →
     SeatsAreAll callers program seats → AllCalled callers program order
 all_called Scripts program seats order are full = λ t. sym (are.called t) ∙ full t
@@ -114,7 +114,7 @@ all_counted Anyone program seats order are all = tt
 -- ---- a line further
 
 module _ (turns : ℕ) (callers : Callers) (format : Format) (program : Typed) where
-  -- what was found: the line may come, and the progress after it
+  -- the line may come, and this is the progress after it
   abbrev pub Further : Reader → List ℕ → Progress → Type 0
   Further reader text after = (next : Reader) × Comes turns callers format program reader next text × IsAt program after next
 
@@ -198,7 +198,7 @@ module _ (turns : ℕ) (callers : Callers) (format : Format) (program : Typed) w
 
   -- ---- a call
 
-  -- up to its end the line is that of the call
+  -- up to its end, the line is the line of the call
   pub head_told : (text written : List ℕ) (this : CallRef) → IsHead format program text written this →
       (rest : List ℕ) × (text ≡ call_head format program (scheduled_called this) this.begun ++ rest)
   head_told text written this head =
@@ -234,7 +234,7 @@ module _ (turns : ℕ) (callers : Callers) (format : Format) (program : Typed) w
       (λ other begun tail next. only.only reader other begun tail is next)
       (ap (run_call program turns (scheduled_called this).call) (sym is.heap) ∙ over) never
 
-  -- the line of the only call that a line can be of, with the end that the call has, may come
+  -- the line of the only possible call may come, with the end of that call
   pub call_comes : (at : Progress) (reader : Reader) (line text : List ℕ) (this : CallRef) (end : End) (heap : List Value) →
       IsAt program at reader → at.stage ≡ Calls → at.told ≡ length at.prints.items → IsOnlyCall callers format program at line this →
       (rest : List ℕ) → line ≡ call_head format program (scheduled_called this) this.begun ++ rest →
@@ -286,7 +286,7 @@ module _ (turns : ℕ) (callers : Callers) (format : Format) (program : Typed) w
 
 -- ---- scripts
 
--- the seats of all threads are full, where those of the program's are
+-- the seats of all threads are full, if those of the program's threads are
 pub full_seats : (program : Typed) (seats : BTreeMap ℕ ThreadProgress) → AreThreads Scripts program seats →
     ((t : ℕ) → t < length program.threads.items → called_at seats t ≡ length (script_of program t)) → SeatsAreFull program seats
 full_seats program seats none full t = elim (cases_lt t (length program.threads.items)) [

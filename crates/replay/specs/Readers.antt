@@ -37,8 +37,8 @@ closing_lines program heap = cell_lines program program.cells.items heap ++ code
 
 -- ---- a reader
 
--- the progress in a history: the threads of the calls so far, in order; the values of all cells after them; the lines that
--- are due; and whether `cells` has come
+-- the progress in a history: the threads of the calls so far, in order, the values of all cells after these calls, the
+-- lines that are due, and whether `cells` has come
 pub record Reader : Type 0 where
   pub order : List ℕ
   pub heap : List Value
@@ -63,8 +63,8 @@ calls_by t order = count_by (λ u. u == t) order
 abbrev pub next_call : Typed → List ℕ → ℕ → Option Scheduled
 next_call program order t = slice_get (script_of program t) (calls_by t order)
 
--- a call from outside: its thread has a number of 32 bits and counts its calls from 0; its section exists, its arguments
--- fit, and its text writes it
+-- a call from outside: its thread has a number of 32 bits and counts its calls from 0; its section exists, its
+-- arguments fit, and its text writes it
 pub record IsOpenCall (program : Typed) (order : List ℕ) (call : Scheduled) : Type 0 where
   pub thread : call.thread < 2 ^ 32
   pub counted : call.step ≡ calls_by call.thread order

@@ -30,7 +30,7 @@ abbrev pub next_head : Format → Typed → List ℕ → ℕ → List (List ℕ)
 next_head format program order t =
     option_map_or (λ (call : Scheduled). call_head format program call (length order) ∷ []) (next_call program order t) []
 
--- those lines of the first t threads
+-- the heads of the first `t` threads
 abbrev pub next_heads : Format → Typed → List ℕ → ℕ → List (List ℕ)
 next_heads format program order zero = []
 next_heads format program order (suc t) = next_heads format program order t ++ next_head format program order t
@@ -56,7 +56,7 @@ KeepsCall callers format program reader lines text = (call : Scheduled) (begun :
 abbrev pub MayBeginWithin : List ℕ → ℕ → ℕ → ℕ → Type 0
 MayBeginWithin order thread least most = (begun : ℕ) → MayBegin Two order thread begun ↔ ((least ≤ begun) × (begun ≤ most))
 
--- what the numbers of a line lack
+-- the fault of a line's numbers: a thread past 32 bits, another number than the call's, or a begin out of range
 abbrev pub LacksNumber : Format → List ℕ → Told → Lack → Type 0
 LacksNumber format order told lack.Thread = 2 ^ 32 ≤ told.thread
 LacksNumber format order told (lack.Number number) = (calls_by told.thread order ≡ number) × (told.step ≢ number)
@@ -89,9 +89,9 @@ Lacks format program order (text ∷ more) missing = LacksSo format program orde
 
 -- ---- what may come
 
--- what may come where these lines are left: a line, which is of the call that the first of them names, if it names one; or,
--- where it names none and calls are left, the next call of any thread, with the lines of these up to their ends; or, where
--- anyone may call, any call, with what the first of the lines lacks; or no line
+-- what may come as the first of the lines `lines`. A line: if the first of `lines` names a call, the line is of this
+-- call. Calls: the first of `lines` names no call, and these are the heads of each thread's next call. Any call: anyone
+-- may call, and the first of `lines` lacks `missing`. Nothing: the history is at its end
 abbrev pub IsWanted : ℕ → Callers → Format → Typed → Reader → List (List ℕ) → Wanted → Type 0
 IsWanted turns callers format program reader lines (Line text) =
     MayCome turns callers format program reader (string_bytes text) × KeepsCall callers format program reader lines (string_bytes text)

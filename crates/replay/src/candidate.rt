@@ -164,8 +164,8 @@ impl<'a> Replay<'a> {
         }
     }
 
-    /// The only call whose line `line` may be, if the line agrees with it up to its end. Writes the call's line up to its
-    /// end to `text`.
+    /// The only call whose line `line` may be, if the line agrees with it up to its end. Writes the call's line up to
+    /// its end to `text`.
     pub(crate) fn call_of<'b>(
         &self,
         at: &Progress,

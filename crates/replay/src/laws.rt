@@ -9,9 +9,10 @@ pub fn at_most_one_verdict()
     ensures { AtMostOneVerdict }
 {}
 
-/// A recorded history is the same, with enough turns, exactly where its lines are those of calls that run whole one after
-/// another from the opening cells, and of the heap that they leave. Each thread's calls are those of its script, in order,
-/// or, where anyone may call, each a call from outside; in the second format they have begins that are possible.
+/// A recorded history is the same, with enough turns, exactly where its lines are those of calls that run whole one
+/// after another from the opening cells, and of the heap that they leave. Each thread's calls are those of its script,
+/// in order, or, where anyone may call, each a call from outside; in the second format they have begins that are
+/// possible.
 pub fn same_is_history()
     ensures same { SameIsHistory }
     ensures history { HistoryIsSame }
@@ -30,9 +31,9 @@ pub fn serial_is_same()
     ensures { SerialIsSame }
 {}
 
-/// The history text of entries is the same, with enough turns, where the history is legal, its entries are true, and each
-/// thread's calls are those of its script, or, where anyone may call, from outside; in the second format with begins that
-/// are possible.
+/// The history text of entries is the same, with enough turns, where the history is legal, its entries are true, and
+/// each thread's calls are those of its script, or, where anyone may call, from outside; in the second format with
+/// begins that are possible.
 pub fn entries_are_same()
     ensures { EntriesAreSame }
 {
@@ -40,14 +41,14 @@ pub fn entries_are_same()
     history::laws::legal_is_serial();
 }
 
-/// Where the names of the sections are well-formed and distinct, and so are those of the pools, the text of each call that
-/// can be made, with numbers of 64 bits, writes that call, and anyone may make it.
+/// Where the names of the sections are well-formed and distinct, and so are those of the pools, the text of each call
+/// that can be made, with numbers of 64 bits, writes that call, and anyone may make it.
 pub fn plain_calls_are_told()
     ensures { PlainCallsAreTold }
 {}
 
-/// A history that is the same where the scripts call is also the same where anyone may call, if the text of each call of the
-/// scripts writes that call.
+/// A history that is the same where the scripts call is also the same where anyone may call, if the text of each call
+/// of the scripts writes that call.
 pub fn scripts_are_open()
     ensures { ScriptsAreOpen }
 {}

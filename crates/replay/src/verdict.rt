@@ -7,8 +7,8 @@ use crate::wanted::Wanted;
 pub enum Verdict {
     /// Each line may come at its place, and the last line is `end`.
     Same,
-    /// The first line that may not come at its place. Where lines are missing at the end, it is one more than the number of
-    /// the last line.
+    /// The first line that may not come at its place. Where lines are missing at the end, it is one more than the
+    /// number of the last line.
     Differs(usize),
     /// All lines before this one may come, and up to its end this is the line of a thread's next call, which needs more
     /// turns than are given.

@@ -49,7 +49,7 @@ pub enum Lack {
     },
     /// A section of the program.
     Section,
-    /// Arguments that fit its section; all else is right.
+    /// Arguments that fit its section; everything else is right.
     Arguments,
 }
 

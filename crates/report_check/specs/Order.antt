@@ -71,7 +71,7 @@ abbrev pub ends_text : Typed → ClassPair → List ℕ
 ends_text program pair =
     codes "  \"" ++ class_name program pair.edge.class ++ codes "\" -> \"" ++ class_name program pair.next ++ codes "\""
 
--- "CLASS" -> "CLASS" [label="SECTION:LINE:COL"]; on the cycle [label="SECTION:LINE:COL", color="red"];
+-- `"CLASS" -> "CLASS" [label="SECTION:LINE:COL"];`, where an edge on the cycle has `, color="red"` after its label
 abbrev pub edge_text : List ℕ → Typed → List Edge → ClassPair → List ℕ
 edge_text text program cycle pair =
     line (ends_text program pair ++ codes " [label=\"" ++ use_text text program pair.edge ++ codes "\"" ++ mark cycle pair ++ codes "];")

@@ -1,4 +1,4 @@
--- Of things that are the same the first one: what one thing more changes.
+-- The first of each class of equal things, when one thing more is seen.
 use Rattle.std.proofs.Common.{◌≡◌, ℕ, suc, ◌+◌, ◌<◌, Bool, true, false, true≢false, cond, List, [], ◌∷◌, ◌++◌, length}
 use Rattle.std.proofs.Common.{get_or, refl, sym, ap, ◌∙◌, arith, set}
 use Rattle.std.specs.Prelude.{map, if◌then◌else◌, ◌||◌, not}
@@ -28,7 +28,7 @@ pub place-map : {X Y : Type 0} (p : Y → Bool) (f : X → Y) (xs : List X) → 
 place-map p f [] = refl
 place-map p f (x ∷ xs) = ap (λ (n : ℕ). cond (not (p (f x))) (1 + n) 0) (place-map p f xs)
 
--- a place where one passes is within the list
+-- the index of an element that passes is within the list
 pub place_within : {X : Type 0} (p : X → Bool) (xs : List X) → list_any p xs ≡ true → position_or_len p xs < length xs
 place_within p [] h = absurd (true≢false (sym h))
 place_within p (x ∷ xs) h = by (p x) refl (place_within p xs)
@@ -51,7 +51,7 @@ none_counted p (x ∷ xs) h = by (p x) refl (none_counted p xs)
         let parts = sum_by-append (λ y. cond (p y) 1 0) (x ∷ []) xs in
         parts ∙ rw e (omega arith)
 
--- what holds of each element goes on to hold
+-- a weaker property of each element
 pub all_weaker : {X : Type 0} (P Q : X → Type 0) → ((x : X) → P x → Q x) → (xs : List X) → AllByRecursion P xs → AllByRecursion Q xs
 all_weaker P Q f [] all = tt
 all_weaker P Q f (x ∷ xs) all = (f x all.0, all_weaker P Q f xs all.1)
@@ -61,7 +61,7 @@ all_push P [] x all one = (one, tt)
 all_push P (y ∷ ys) x all one = (all.0, all_push P ys x all.1 one)
 
 module _ {X : Type 0} {same : X → X → Bool} (laws : IsEquivalence same) where
-  -- which ones there are, with one more
+  -- the things that were seen, with one more
   pub any_with : (seen : List X) (x y : X) → list_any (same y) (with_first same seen x) ≡ (list_any (same y) seen || same y x)
   any_with seen x y = by (list_any (same x) seen) refl (same y x) refl
     where
@@ -88,10 +88,10 @@ module _ {X : Type 0} {same : X → X → Bool} (laws : IsEquivalence same) wher
       by true e = distinct
       by false e = IsDistinct-push laws seen x distinct e
 
--- a key for each of those that are the same, told apart by what they show
+-- keys that show the things, where equal things show the same
 module _ {K V X : Type 0} (eq : V → V → Bool) (shown : K → V) (view : X → V) (same : X → X → Bool) (agree : (x y : X) → same x y ≡ eq (view x) (view y))
     (key_eq : K → K → Bool) (shows : (a b : K) → key_eq a b ≡ eq (shown a) (shown b)) where
-  -- a key that shows what one does is among those that show what others do where it is the same as one of these
+  -- a key is among the keys exactly if a thing equal to its own was seen
   pub any_shown : (keys : List K) (xs : List X) (k : K) (x : X) → map shown keys ≡ map view xs → shown k ≡ view x →
       list_any (key_eq k) keys ≡ list_any (same x) xs
   any_shown keys xs k x keyed is =
@@ -101,7 +101,7 @@ module _ {K V X : Type 0} (eq : V → V → Bool) (shown : K → V) (view : X �
       ∙ any-map (eq (view x)) view xs
       ∙ any_of_same (λ y. eq (view x) (view y)) (same x) (λ y. sym (agree x y)) xs
 
-  -- and in the same place
+  -- the key is at the same index as the thing
   pub place_shown : (keys : List K) (xs : List X) (k : K) (x : X) → map shown keys ≡ map view xs → shown k ≡ view x →
       position_or_len (key_eq k) keys ≡ position_or_len (same x) xs
   place_shown keys xs k x keyed is =
@@ -111,7 +111,7 @@ module _ {K V X : Type 0} (eq : V → V → Bool) (shown : K → V) (view : X �
       ∙ place-map (eq (view x)) view xs
       ∙ place_of_same (λ y. eq (view x) (view y)) (same x) (λ y. sym (agree x y)) xs
 
-  -- one key more shows one more of them
+  -- one more key shows one more thing
   pub keyed_with : (keys : List K) (xs : List X) (k : K) (x : X) → map shown keys ≡ map view xs → shown k ≡ view x →
       map shown (insert_key key_eq keys k) ≡ map view (with_first same xs x)
   keyed_with keys xs k x keyed is =
@@ -122,9 +122,9 @@ module _ {K V X : Type 0} (eq : V → V → Bool) (shown : K → V) (view : X �
       by true e = rw e keyed
       by false e = rw e (map-append shown keys (k ∷ []) ∙ (λ i. keyed i ++ is i ∷ []) ∙ sym (map-append view xs (x ∷ [])))
 
--- ---- what is told of each
+-- ---- the row of each thing
 
--- of one more thing alone the row of the first that is the same changes
+-- one more thing changes only the row of the first thing equal to it
 module _ {X T : Type 0} {same : X → X → Bool} (laws : IsEquivalence same) (row new : X → T) (up : T → T) (x : X)
     (raised : (y : X) → same x y ≡ true → new y ≡ up (row y)) where
   pub row_raised : (seen : List X) (d : T) → IsDistinct same seen → list_any (same x) seen ≡ true →

@@ -1,4 +1,4 @@
--- What no told end breaks holds in every order.
+-- What no reported end breaks holds in every order.
 use Rattle.std.proofs.Common.{◌≡◌, ◌∙◌, ℕ, ◌<◌, zero, suc, Bool, true, false, cond, not, List, [], ◌∷◌, length, get_or}
 use Rattle.std.proofs.Common.{Option, Some, None, ap, sym, refl, arith}
 use Rattle.std.specs.Prelude.{find}

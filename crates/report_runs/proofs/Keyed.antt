@@ -1,4 +1,4 @@
--- What the sets and the rows of the code have of runs.
+-- The sets and the rows of the code, by the runs that were seen.
 use Rattle.std.proofs.Common.{◌≡◌, ℕ, zero, suc, ◌+◌, ◌≤◌, Bool, true, false, List, [], ◌∷◌, ◌++◌, length, get_or, set, take, nat_lt, cond, Some, None}
 use Rattle.std.proofs.Common.{refl, sym, ap, ◌∙◌, append_assoc}
 use Rattle.std.specs.Prelude.{map, ◌&&◌, position, if◌then◌else◌}
@@ -97,7 +97,7 @@ module _ (runs : List Run) (run : Run) where
         by true h = cc
         by false h = cc
 
-  -- where the run is of a kind that was seen they stay
+  -- a run of a kind that was seen does not change the kinds
   pub kinds_same : (keys : List RunKind) → map kind_shown keys ≡ map kind_in (firsts same_kind runs) → list_any (same_kind run) (firsts same_kind runs) ≡ true →
       map kind_shown keys ≡ map kind_in (with_first same_kind (firsts same_kind runs) run)
   kinds_same keys keyed there = keyed ∙ ap (λ (b : Bool). map kind_in (if b then firsts same_kind runs else firsts same_kind runs ++ run ∷ [])) (sym there)

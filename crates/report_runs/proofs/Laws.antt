@@ -1,4 +1,4 @@
--- Which runs are alike is an equivalence.
+-- The likeness of runs is an equivalence.
 use Rattle.std.proofs.Common.{◌≡◌, Bool, true, false, true≢false, List, [], ◌∷◌, refl, sym}
 use Rattle.std.specs.Prelude.{map, ◌&&◌, ◌==◌}
 use Rattle.std.specs.Cmp.{IsEquivalence, on_equiv, int_eq_equiv, nat_eq_equiv}
@@ -8,7 +8,7 @@ use Rattle.core_lang.specs.declared.value.Value.TheVariants.{Int, Ref}
 use Rattle.history.specs.Commits.{Commit}
 use Rattle.report_runs.specs.Runs.{Run, same_place, same_order, same_value, same_end, same_kind}
 
--- both of two equivalences are one
+-- the conjunction of two equivalences is an equivalence
 both : {X : Type 0} (e f : X → X → Bool) → IsEquivalence e → IsEquivalence f → IsEquivalence (λ x y. e x y && f x y)
 both e f p q = record {
   refl = λ x. λ i. p.refl x i && q.refl x i;
@@ -61,7 +61,7 @@ kind_laws = both same_order same_end order_laws end_laws
 -- ---- the tests of the code
 
 module _ {X Y : Type 0} (eq : Y → Y → Bool) (same : X → X → Bool) (view : X → Y) (agree : (x y : X) → same x y ≡ eq (view x) (view y)) where
-  -- lists are the same where what is shown of them is
+  -- lists are alike if the lists of what they show are
   pub pointwise_shown : (xs ys : List X) → pointwise same xs ys ≡ pointwise eq (map view xs) (map view ys)
   pointwise_shown [] [] = refl
   pointwise_shown [] (y ∷ ys) = refl

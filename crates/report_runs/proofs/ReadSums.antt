@@ -1,4 +1,4 @@
--- How a sum is read, item by item.
+-- A sum is read item by item.
 use Rattle.std.proofs.Common.{◌≡◌, ◌∙◌, ℕ, zero, suc, ◌<◌, ◌≤◌, List, [], ◌∷◌, ◌++◌, length, take, drop, refl, sym, ap, arith}
 use Rattle.std.proofs.Common.{Option, Some, None, Ok, Err, append_assoc, length-drop, append-nil}
 use Rattle.std.specs.Prelude.{option_map}
@@ -12,7 +12,7 @@ pub in_front_twice : (xs ys : List Part) (reading : Reading (List Part)) → in_
 in_front_twice xs ys (Ok read) = ap (λ (ps : List Part). let r : Reading (List Part) = Ok (ps, read.1) in r) (sym (append_assoc xs ys read.0))
 in_front_twice xs ys (Err stop) = refl
 
--- a word that means something is not empty
+-- a word that stands for an amount is not empty
 word_shortens : (text : List ℕ) (n : ℕ) (word : List ℕ) (a : Amount) → word ≡ take n text → Some a ≡ amount_in word → length (drop n text) < length text
 word_shortens [] n [] a is some = absurd (none-some a (sym some))
 word_shortens [] zero (w ∷ ws) a is some = absurd cc
@@ -34,11 +34,11 @@ pub sign_shortens : (text : List ℕ) (s : Sign) (rest : List ℕ) → Some (s, 
 sign_shortens [] s rest is = absurd (none-some (s, rest) (sym is))
 sign_shortens (b ∷ bs) s rest is = grind arith
 
--- these parts and those that are left are the whole
+-- the parts so far and the remaining ones are all parts
 abbrev pub IsSoFar : List Part → Sign → List ℕ → Reading (List Part) → Type 0
 IsSoFar parts sign rest whole = (m : ℕ) × (length rest ≤ m) × (in_front parts (sum_from m sign rest) ≡ whole)
 
--- behind an item: the next sign and what it brings, or nothing more
+-- the text after an item: the next sign and its item, or nothing more
 abbrev pub behind_item : ℕ → List ℕ → Option (Sign × List ℕ) → Reading (List Part)
 behind_item n here next = option_map_or (λ (next : Sign × List ℕ). sum_from n next.0 next.1) next (Ok ([], here))
 

@@ -1,4 +1,4 @@
--- What one run more changes.
+-- The effect of one more run.
 use Rattle.std.proofs.Common.{◌≡◌, ℕ, ◌+◌, Bool, true, false, true≢false, cond, List, [], ◌∷◌, ◌++◌, get_or, set}
 use Rattle.std.proofs.Common.{refl, sym, ap, ◌∙◌, arith, length-append}
 use Rattle.std.specs.Prelude.{map, ◌||◌, ◌&&◌, count_by, if◌then◌else◌}
@@ -33,7 +33,7 @@ or_first : (a b : Bool) → a ≡ true → (a || b) ≡ true
 or_first true b h = refl
 or_first false b h = absurd (true≢false (sym h))
 
--- before any run
+-- no run was seen
 pub nothing_seen : (program : Typed) (new : Seen) → new.program.now ≡ program → new.runs ≡ 0 → new.orders.keys ≡ [] → new.ends.keys ≡ [] →
     new.kinds.keys ≡ [] → new.told.items ≡ [] → HasSeen program [] new
 nothing_seen program new same_program none orders ends kinds told = record {
@@ -132,7 +132,7 @@ module _ (program : Typed) (runs : List Run) (run : Run) where
         ∙ row_raised kind_laws (row_of program runs) (row_of program (runs ++ run ∷ [])) (λ (row : Row). record row { runs = row.runs + 1 }) run raised (firsts same_kind runs) d distinct there stay
         ∙ ap (map (row_of program (runs ++ run ∷ []))) (sym (firsts_push kind_laws runs run ∙ ap (λ (b : Bool). if b then firsts same_kind runs else firsts same_kind runs ++ run ∷ []) there))
 
-    -- it is of a new kind
+    -- the run is of a new kind
     pub rows_pushed : (new : List Row) (row : Row) → list_any (same_kind run) (firsts same_kind runs) ≡ false → list_any (same_kind run) runs ≡ false →
         new ≡ rows ++ row ∷ [] →
         row ≡ record { order = number_of same_order runs run; end = number_of same_end runs run; runs = 1; history = run_text program run } →

@@ -16,7 +16,7 @@ use Rattle.lowering.specs.Plans.{Plan}
 use Rattle.lowering.specs.Working.Lowered.{IsLowered}
 use Rattle.report_runs.specs.Trace.{text_in, instruction_text}
 
--- what holds of each two at one place of two lists holds with one more of the second
+-- a property of each pair of items of two lists, with one more item of the second list
 pub each_more : {A B : Type 0} (P : ℕ → A → B → Type 0) (xs : List A) (ys : List B) (x : A) (y : B) →
     slice_get xs (length ys) ≡ Some x → P (length ys) x y →
     ((j : ℕ) (a : A) (b : B) → slice_get xs j ≡ Some a → slice_get ys j ≡ Some b → P j a b) →
@@ -30,7 +30,7 @@ each_more P xs ys x y at here before j a b one two =
     ]
 
 module _ (text : List ℕ) (plan : Plan) (k place : ℕ) where
-  -- of a section that there is, by its places and its code
+  -- the instruction of a section, by the places and the code of the section
   pub told_by : (section : Section) (here : SectionPlaces) (made : SectionCode) (lists : List (List ℕ)) →
       slice_get plan.program.sections.items k ≡ Some section → PlacesOf text section here → IsLowered section (lists_at plan.lists k) made →
       lists ≡ lists_at plan.lists k →

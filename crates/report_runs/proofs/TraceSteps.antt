@@ -26,7 +26,7 @@ lines_more text plan moves all w (t ∷ xs) ys =
     (steps_text text plan moves all (world_after plan next xs) ys))
 
 module _ {Z : Type 0} (x : StepWriter) where
-  -- some steps, and some more
+  -- some steps, and then more
   pub tells_both : (a b c : ThreadsOf) (ts us : List ℕ) (o p q : String Z) → a.plan ≡ x.program.now →
       Tells x ts a b o p → Tells x us b c p q →
       Tells x (ts ++ us) a c o q
@@ -41,14 +41,14 @@ module _ {Z : Type 0} (x : StepWriter) where
             ∙ ap (λ l. string_bytes o ++ l) (sym (lines_more x.text.now x.program.now x.moves x.all a.world ts us));
       }
 
-  -- one step more of a thread
+  -- one more step of a thread
   pub tells_again : (a b c : ThreadsOf) (n t : ℕ) (o p q : String Z) → a.plan ≡ x.program.now →
       Tells x (replicate n t) a b o p →
       Tells x (t ∷ []) b c p q → Tells x (replicate (n + 1) t) a c o q
   tells_again a b c n t o p q plan first last =
       subst (λ ts. Tells x ts a c o q) (replicate_more n t) (tells_both a b c (replicate n t) (t ∷ []) o p q plan first last)
 
-  -- one turn more
+  -- one more turn
   pub tells_turn : (a b c : ThreadsOf) (turns : List Turn) (i : ℕ) (d : Turn) (o p q : String Z) →
       a.plan ≡ x.program.now →
       i < length turns → Tells x (steps_of (take i turns)) a b o p →

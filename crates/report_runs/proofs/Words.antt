@@ -19,7 +19,7 @@ word_ascii (b ∷ bs) h =
 pub word_utf8 : (bs : List ℕ) → list_all is_word_byte bs ≡ true → IsUtf8 bs
 word_utf8 bs h = IsUtf8-from_ascii bs (word_ascii bs h)
 
--- the front whose elements pass a test does
+-- the elements of the longest front that passes a test pass it
 pub front_all : (p : ℕ → Bool) (bs : List ℕ) → list_all p (take_while p bs) ≡ true
 front_all p [] = refl
 front_all p (b ∷ bs) = turn (p b) refl (front_all p bs)

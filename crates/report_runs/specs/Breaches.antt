@@ -1,5 +1,5 @@
--- The report on ends of which something is expected, as bytes: that all are as expected, and whether these are the ends of
--- all orders; or an order that leads to one that is not, and what the cells hold at this end.
+-- The report on ends of which something is expected, as bytes: that all are as expected, and whether these are the ends
+-- of all orders; or an order that leads to one that is not, and what the cells hold at this end.
 use Rattle.std.specs.Prelude.{ℕ, not, List, ◌++◌, find, codes, Option, Some, None}
 use Rattle.core_lang.specs.declared.typed.Typed.{Typed}
 use Rattle.code.specs.Listing.{line}

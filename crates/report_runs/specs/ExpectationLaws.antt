@@ -7,7 +7,8 @@ use Rattle.report_runs.specs.declared.comparison.Comparison.{Comparison}
 use Rattle.report_runs.specs.Sums.{holds}
 use Rattle.report_runs.specs.Breaches.{breach_in}
 
--- where every end is reported, and a comparison holds of each reported end, it holds of what the calls leave in any order
+-- where every end is reported, and a comparison holds of each reported end, it holds of what the calls leave in any
+-- order
 abbrev pub HoldsInEveryOrder : Type 0
 HoldsInEveryOrder =
     (program : Typed) (asked : Asked) (comparison : Comparison) (told : List Told) → TellsEveryEnd program asked told →

@@ -1,5 +1,5 @@
--- The meaning of the text of an expectation: SUM RELATION SUM. A SUM is ITEM, then + ITEM or - ITEM any number of times,
--- perhaps with a - before it; an ITEM is a number or a name. Blanks may stand before and after each of these.
+-- The meaning of the text of an expectation: SUM RELATION SUM. A SUM is ITEM, then + ITEM or - ITEM any number of
+-- times, perhaps with a - before it; an ITEM is a number or a name. Blanks may stand before and after each of these.
 use Rattle.std.specs.Prelude.{◌≡◌, ℕ, ◌-◌, Bool, not, ◌==◌, ◌&&◌, ◌||◌, nat_le, if◌then◌else◌, List, [], ◌∷◌, ◌++◌, length, drop, map}
 use Rattle.std.specs.Prelude.{false, Option, Some, None, option_map, Result, Ok, Err, ℤ, pos, zero, suc}
 use Rattle.std.specs.List.{list_all, prefix_len, take_while}
@@ -72,7 +72,7 @@ are_digits word = list_all is_digit word
 abbrev pub number_in : List ℕ → Option ℤ
 number_in word = if are_digits word && nat_le (value_of word) NUMBER_LIMIT then Some (pos (value_of word)) else None
 
--- what a word writes: a number, if it begins with a digit, else a name
+-- what a word writes: a number, if it begins with a digit, and otherwise a name
 abbrev pub amount_in : List ℕ → Option Amount
 amount_in [] = None
 amount_in (b ∷ bs) = if is_digit b then option_map the_number (number_in (b ∷ bs)) else Some (the_name (b ∷ bs))

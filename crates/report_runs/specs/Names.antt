@@ -1,6 +1,6 @@
 -- The cells that a name stands for: the cell that is written like the name, or the cells that are written like the name
--- followed by an index or a field. `n` is a global, `a` an array, `a[0]` an element, `p` a pool, `p[1]` an object, `p[1].x`
--- a field of the object.
+-- followed by an index or a field. `n` is a global, `a` an array, `a[0]` an element, `p` a pool, `p[1]` an object,
+-- `p[1].x` a field of the object.
 use Rattle.std.specs.Prelude.{◌≡◌, ℕ, ◌+◌, Bool, true, false, ◌&&◌, ◌||◌, if◌then◌else◌, nat_eq, List, [], ◌∷◌, ◌++◌, Contains}
 use Rattle.std.specs.Prelude.{Option, Some, None}
 use Rattle.std.specs.List.{list_all, list_any, slice_split}

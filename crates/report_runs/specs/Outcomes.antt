@@ -1,8 +1,9 @@
--- The text of `outcomes`, as bytes: a line with the number of explored orders of a program's calls that says whether these
--- are all, or that they represent all; where so, a line with the number of states; then for each end a line with the number
--- of orders that have it (unless the explored orders represent all) and one of these orders; a line `cells`, a line for each
--- cell that is asked for; if answers are asked for, a line `answers` and a line for each call that was made; a line `end`.
--- An end after the first one leaves out the lines that the first one has too, unless all ends are written in full.
+-- The text of `outcomes`, as bytes. Its first line has the number of explored orders of a program's calls, and says
+-- whether these are all, or that they represent all; in both cases a line with the number of states follows. Each end
+-- has a line with the number of orders that lead to it (unless the explored orders represent all) and one of these
+-- orders, a line `cells`, a line for each cell that is asked for, and a line `end`. If answers are asked for, a line
+-- `answers` and a line for each call precede that last line. An end after the first one leaves out the lines that the
+-- first one has too, unless all ends are written in full.
 use Rattle.std.specs.Prelude.{ℕ, ◌+◌, Bool, true, false, if◌then◌else◌, nat_eq, List, [], ◌∷◌, ◌++◌, sum_by, codes}
 use Rattle.std.specs.Prelude.{Option, Some, None, slice_get, slice_index, slice_index_or}
 use Rattle.std.specs.List.{flat_map}
@@ -121,7 +122,7 @@ ends_text program asked full scope (first ∷ others) =
 abbrev pub looked_at : List Told → ℕ
 looked_at ends = sum_by (λ (end : Told). end.count) ends
 
--- orders N all, and states S; or orders reduced, and states S; or orders N drawn
+-- `orders N all` and `states S`, or `orders reduced` and `states S`, or `orders N drawn`
 abbrev pub head_text : ℕ → Scope → List ℕ
 head_text count (Every_order states) = line (codes "orders " ++ decimal count ++ codes " all") ++ line (codes "states " ++ decimal states)
 head_text count (Reduced states) = line (codes "orders reduced") ++ line (codes "states " ++ decimal states)

@@ -1,5 +1,5 @@
--- The text of runs, as bytes: their number, the numbers of different orders of their calls and of different ends of their
--- cells, and the first history of each kind of run.
+-- The text of runs, as bytes: their number, the numbers of different orders of their calls and of different ends of
+-- their cells, and the first history of each kind of run.
 use Rattle.std.specs.Prelude.{ℕ, ◌+◌, ◌==◌, ◌&&◌, Bool, false, List, [], ◌∷◌, ◌++◌, if◌then◌else◌, length, map, fold, codes}
 use Rattle.std.specs.Prelude.{nat_eq, count_by}
 use Rattle.std.specs.Cmp.Lexicographic.{pointwise}

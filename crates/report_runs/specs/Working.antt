@@ -1,5 +1,5 @@
--- Definitions of what the code computes and of the values of its types, for proofs and for the crates above. Nobody has to
--- believe these files: no promise cites them.
+-- Definitions of what the code computes and of the values of its types, for proofs and for the crates above. Nobody has
+-- to believe these files: no promise cites them.
 pub mod Heads
 pub mod Instructions
 pub mod Kinds

@@ -124,8 +124,9 @@ fn names_together<'t>(
     }
 }
 
-/// The cells that are asked for by the names in `text`, which are separated by commas, and by those in `more`: the cells of
-/// each name, or all cells where neither is given. The inner error is the first name that does not stand for a cell.
+/// The cells that are asked for by the names in `text`, which are separated by commas, and by those in `more`: the
+/// cells of each name, or all cells where neither is given. The inner error is the first name that does not stand for a
+/// cell.
 ///
 /// # Errors
 ///

@@ -106,7 +106,8 @@ impl Told<'_> {
         }
     }
 
-    /// The sum of `addends`. It is exact: each addend is at most 2^63 away from 0, and a `Vec` has fewer than 2^64 of them.
+    /// The sum of `addends`. It is exact: each addend is at most 2^63 away from 0, and a `Vec` has fewer than 2^64 of
+    /// them.
     fn sum_of(self, addends: &[Addend]) -> i128
         ensures { result ≡ sum_of self.entry.cells.now self.entry.values.now addends.now }
     {

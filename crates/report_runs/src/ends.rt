@@ -310,8 +310,8 @@ impl Ends<'_> {
         out.push_str("end\n")
     }
 
-    /// Appends the content of all cells that are asked for at `end`: a line `cells`, a line for each, a line `end`. The one
-    /// error is a refused growth.
+    /// Appends the content of all cells that are asked for at `end`: a line `cells`, a line for each, a line `end`. The
+    /// one error is a refused growth.
     pub fn push_whole_cells(&self, out: &mut String, end: &FinalState) -> Result<(), AllocError>
         ensures { OnOk result (AddsText
             (whole_cells_text self.now.program.now self.now.asked.now.cells (told_of end.now).left.cells) out.old out.new) }
@@ -376,10 +376,10 @@ impl Ends<'_> {
         }
     }
 
-    /// The text of `outcomes`: the number of explored orders, whether these are all or represent all, and, where so, the
-    /// number of states; then for each end the number of orders that have it (unless the explored orders represent all), one
-    /// of these orders, the contents of the cells that are asked for and, where asked for, the outcomes of the calls. The
-    /// only error is a refused growth, which includes a number of orders past `u64`.
+    /// The text of `outcomes`: the number of explored orders, whether these are all or represent all, and, where so,
+    /// the number of states; then for each end the number of orders that have it (unless the explored orders represent
+    /// all), one of these orders, the contents of the cells that are asked for and, where asked for, the outcomes of
+    /// the calls. The only error is a refused growth, which includes a number of orders past `u64`.
     pub fn text(&self, alloc: Global) -> Result<String, NoMemory>
         ensures { IfOk result (λ text. string_bytes text
             ≡ outcomes_text self.now.program.now self.now.asked.now self.now.full self.now.scope (map told_of self.now.ends.now)) }

@@ -145,8 +145,8 @@ impl<'t> Expectation<'t> {
         Ok(names)
     }
 
-    /// The comparison over the cells of `program`: each name stands for the sum of its cells. The inner error is the first
-    /// name that does not stand for a sum.
+    /// The comparison over the cells of `program`: each name stands for the sum of its cells. The inner error is the
+    /// first name that does not stand for a sum.
     ///
     /// # Errors
     ///

@@ -73,8 +73,8 @@ impl ExpectedEnds<'_> {
         self.ends.push_whole_cells(out, end)
     }
 
-    /// The report whether all ends are as expected; where one is not, with an order that leads to it, and what the cells
-    /// hold at this end.
+    /// The report whether all ends are as expected; where one is not, with an order that leads to it, and what the
+    /// cells hold at this end.
     ///
     /// # Errors
     ///

@@ -16,8 +16,8 @@ use source::memory::NoMemory;
 use std::alloc::Global;
 use std::hash::Hash;
 
-/// A summary of the runs of a program: their number, each order of calls once, each end of the cells once, and for each kind
-/// of run (an order with an end) the text of the first run and the number of runs.
+/// A summary of the runs of a program: their number, each order of calls once, each end of the cells once, and for each
+/// kind of run (an order with an end) the text of the first run and the number of runs.
 #[derive(Drop)]
 pub struct Seen<'p> {
     alloc: Global,
@@ -69,7 +69,8 @@ impl<'p> Seen<'p> {
     ///
     /// # Errors
     ///
-    /// A refused growth, which includes a number of runs past `u64`. The summary's content is unspecified after an error.
+    /// A refused growth, which includes a number of runs past `u64`. The summary's content is unspecified after an
+    /// error.
     pub fn add(&mut self, history: &History, values: &[Value]) -> Result<(), NoMemory>
         requires values { vec_len self.old.program.now.cells ≡ length values.now }
         ensures { OnOk result ((program : TypedValue) (runs : List Run) → HasSeen program runs self.old →

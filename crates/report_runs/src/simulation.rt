@@ -74,8 +74,8 @@ fn push_threads(out: &mut String, world: &World<'_>) -> Result<(), AllocError>
     Ok(())
 }
 
-/// The text of a world: its finished sections in order, the content of each cell that no section holds, and the status of
-/// each thread.
+/// The text of a world: its finished sections in order, the content of each cell that no section holds, and the status
+/// of each thread.
 ///
 /// # Errors
 ///

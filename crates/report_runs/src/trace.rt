@@ -26,8 +26,8 @@ pub struct Trace<'a> {
 }
 
 impl Trace<'_> {
-    /// The text of `trace`: a line for each reported step of `turns`, from the opening world on, then the simulation text.
-    /// The only error is a refused growth.
+    /// The text of `trace`: a line for each reported step of `turns`, from the opening world on, then the simulation
+    /// text. The only error is a refused growth.
     pub fn text(&self, alloc: Global, turns: &[Turn]) -> Result<String, NoMemory>
         ensures { IfOk result (λ told. string_bytes told
             ≡ trace_text self.now.text.now self.now.program.now self.now.moves self.now.all (steps_of turns.now)) }

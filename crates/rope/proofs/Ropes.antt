@@ -20,7 +20,7 @@ later P x xs all k d lt = all (suc k) d (omega (arith, lt))
 first : (P : Insert → Type 0) (x : Insert) (xs : List Insert) → All P (x ∷ xs) → P x
 first P x xs all = all 0 x (omega arith)
 
--- ---- more of its own
+-- ---- more text of its own
 
 pub still_in : (bytes more groups : ℕ) (xs : List Insert) → bytes ≤ more → All (IsIn bytes groups) xs →
     All (IsIn more groups) xs
@@ -63,7 +63,7 @@ own_added (Ok x) own grown more groups count xs last rope is well e =
     (own_grown own more groups count grown xs last well.1 well.0 e ∙ ap (λ v. rope_text v ++ more) is, ap (λ v. v.groups) is)
 own_added (Err x) own grown more groups count xs last rope is well e = record {}
 
--- ---- one insert more, after all
+-- ---- one more insert at the end
 
 module _ (own : List ℕ) (groups : List (List (List ℕ))) (x : Insert) (at_end : x.at ≡ length own) where
   last_piece : piece own groups x ≡ (drop x.from own, part_of groups x.group x.number)
@@ -89,7 +89,7 @@ module _ (own : List ℕ) (groups : List (List (List ℕ))) (x : Insert) (at_end
       ∙ ap (λ (bytes : List ℕ). flat_map both before ++ bytes) (append-nil (rest ++ part))
       ∙ sym (append_assoc (flat_map both before) rest part)
 
--- a push adds it, unless the allocation fails
+-- a push adds an insert, unless the allocation fails
 pub part_added : (own : List ℕ) (groups : List (List (List ℕ))) (x : Insert) (xs grown : List Insert) (rope : RopeOf) →
     x.at ≡ length own → made own groups xs x.from ≡ rope → grown ≡ xs ++ x ∷ [] →
     AddsTo (part_of groups x.group x.number) rope (made own groups grown x.at)
@@ -107,7 +107,7 @@ in_more bytes groups x xs grown is all e = rw e (more xs all)
     more (y ∷ ys) each zero d lt = first (IsIn bytes groups) y ys each
     more (y ∷ ys) each (suc k) d lt = more ys (later (IsIn bytes groups) y ys each) k d (omega (arith, lt))
 
--- ---- one group more
+-- ---- one more group
 
 part_stays : (groups : List (List (List ℕ))) (more : List (List ℕ)) (group number : ℕ) → group < length groups →
     part_of (groups ++ more ∷ []) group number ≡ part_of groups group number
@@ -123,7 +123,7 @@ groups_grown own bytes count groups more (x ∷ xs) e all =
     (part_stays groups more x.group x.number (let lt = (first (IsIn bytes count) x xs all).group in omega (arith, lt, e)))
     ∙ ap (λ ps. piece own groups x ∷ ps) (groups_grown own bytes count groups more xs e (later (IsIn bytes count) x xs all))
 
--- a group is kept, or its growth is refused; the text is the same
+-- a group is kept, or its growth is refused; the text stays the same
 pub kept_same : (b : Bool) (own : List ℕ) (bytes : ℕ) (groups grown : List (Vec (String Global) Global)) (parts : Vec (String Global) Global) (xs : List Insert) (last : ℕ) →
     grown ≡ (if b then groups ++ parts ∷ [] else groups) → All (IsIn bytes (length groups)) xs →
     rope_text (made own (groups_of grown) xs last) ≡ rope_text (made own (groups_of groups) xs last)

@@ -9,7 +9,7 @@ below_next P (suc n) below last zero lt = below zero (omega arith)
 below_next P (suc n) below last (suc k) lt =
     below_next (λ (j : ℕ). P (suc j)) n (λ j l. below (suc j) (omega (arith, l))) last k (omega (arith, lt))
 
--- a section that has come so far does one more, and then its next step is none
+-- a section that has run `done` instructions runs one more, after which it stops
 pub ran_on : (most done : ℕ) (o now last : OpenOf) → done < most → now ≡ moved_by done o →
     ((k : ℕ) → k < done → IsRunning (moved_by k o)) →
     IsRunning now → last ≡ moved now → (IsRunning last → ⊥) → Ran most o (done + 1) last
@@ -22,7 +22,7 @@ ran_on most done o now last lt is running runs next stops =
       stops = λ more. stops;
     }
 
--- it has done as many as it may
+-- a section has run as many instructions as it may
 pub ran_all : (most done : ℕ) (o now : OpenOf) → done ≤ most → most ≤ done → now ≡ moved_by done o →
     ((k : ℕ) → k < done → IsRunning (moved_by k o)) →
     Ran most o most now
@@ -35,7 +35,7 @@ ran_all most done o now le ge is running =
       stops = λ more. absurd (omega (arith, more));
     }
 
--- a section that has come so far goes on running with one more
+-- a section that has run `done` instructions still runs after one more
 pub one_more_runs : (done : ℕ) (o now last : OpenOf) → now ≡ moved_by done o →
     ((k : ℕ) → k < done → IsRunning (moved_by k o)) → IsRunning now →
     last ≡ moved now → IsRunning last → (last ≡ moved_by (done + 1) o) × ((k : ℕ) → k < done + 1 → IsRunning (moved_by k o)) × IsRunning last
@@ -46,7 +46,7 @@ one_more_runs done o now last is running runs next still =
       still,
     )
 
--- a section that may do one instruction, and whose next step is one, does it
+-- a section that may run one instruction, and has one to run, runs it
 pub once_ran : (o last : OpenOf) (count : ℕ) → Ran 1 o count last → IsRunning o → last ≡ moved o
 once_ran o last zero ran running = absurd (ran.stops (omega arith) (subst IsRunning (sym ran.is) running))
 once_ran o last (suc zero) ran running = ran.is

@@ -46,7 +46,7 @@ no_section plan k locals i found are none =
     let e : section_at plan k ≡ None = not_there found.sections.items plan.program.sections.items k are.sections none in
     ap (λ (o : Option Section). lookup o (λ (section : Section). lock_numbered plan.program section locals i)) e
 
--- the lock is that of the path at the number
+-- the lock of the path of this number
 pub lock_found : (plan : Plan) (k : ℕ) (locals : List Value) (i : ℕ) (found : Paths) (x : SectionPaths) →
     ArePaths plan.program found →
     slice_get found.sections.items k ≡ Some x →
@@ -91,7 +91,7 @@ drop_at (x ∷ xs) (suc j) lt =
     drop_at xs j (omega arith)
     ∙ ap (λ n. get_or xs j 0 ∷ drop n (x ∷ xs)) (let e : suc (j + 1) ≡ suc j + 1 = omega arith in e)
 
--- the list from the one before on
+-- the list from one item earlier on
 pub one_more : (plan : Plan) (k : ℕ) (held : List Lock) (locals : List Value) (list : List ℕ) (left : ℕ) → 0 < left →
     left ≤ length list →
     asked_at plan k held locals (drop (left - 1) list)
@@ -103,7 +103,7 @@ one_more plan k held locals list left some le =
     ∙ more_of plan (section_at plan k) held locals (get_or list j 0) (drop (j + 1) list)
     ∙ ap (λ n. insert_new plan.ranks held (lock_at plan k locals (get_or list j 0)) (asked_at plan k held locals (drop n list))) e
 
--- ---- no lock is taken out again
+-- ---- no lock is removed again
 
 longer_if : (b : Bool) (xs ys : List Lock) (n : ℕ) → n ≤ length xs → n ≤ length ys → n ≤ length (if b then xs else ys)
 longer_if true xs ys n l r = l
@@ -136,7 +136,7 @@ behind_is_shorter plan k held locals (i ∷ is) (suc j) =
       ap (λ (xs : List Lock). length xs) (more_of plan (section_at plan k) held locals i is),
     )
 
--- so there is room for the next one
+-- the next lock has room
 pub has_room : (plan : Plan) (k : ℕ) (held : List Lock) (locals : List Value) (list : List ℕ) (left : ℕ) → 0 < left →
     left ≤ length list →
     length (insert_new plan.ranks held (lock_at plan k locals (get_or list (left - 1) 0)) (asked_at plan k held locals (drop left list)))

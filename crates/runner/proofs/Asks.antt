@@ -40,7 +40,7 @@ pub first_and_rest : (xs : List Lock) (x : Lock) → xs ≢ [] → x ≡ get_or 
 first_and_rest [] x some is = absurd (some refl)
 first_and_rest (y ∷ ys) x some is = ap (λ (z : Lock). z ∷ ys) (sym is)
 
--- ---- it may ask for the lock
+-- ---- the section may ask for the lock
 
 both_fit : (o : OpenOf) (lock : Lock) (rest : List Lock) → SectionsStayInOrder → IsAsking o lock rest →
     FitRoom o.plan (o.activation.held ++ lock ∷ rest) o.room
@@ -79,7 +79,7 @@ may_ask m o lock rest laws known a =
       room = lock_fits o lock rest laws a;
     }
 
--- ---- the cells that it is granted
+-- ---- the cells of the lock
 
 typed_at : (shape : Shape) (ts : List ValueType) (vs : List Value) (i : ℕ) (v : Value) → HaveTypes shape ts vs →
     slice_get vs i ≡ Some v →
@@ -140,7 +140,7 @@ are_lent m o lock values is_open are_whole agree its kept known free =
     lent_as o lock m.values values is_open are_whole agree its known.heap
     (subst (λ (l : LayoutOf). values ≡ values_on m.values (cells_of l.cell_locks lock)) known.layout (kept.free lock values free))
 
--- it can hold them
+-- the section can hold these cells
 pub can_hold : (o : OpenOf) (lock : Lock) (rest : List Lock) (ticket : TicketOf) (run : RunOf) (pending_room : ℕ)
     (grant : GrantOf) → SectionsStayInOrder → PrecedesIsStrict → IsAsking o lock rest → IsKeptOpen o ticket run pending_room →
     run.machine ≡ o.activation.machine → grant.lock ≡ lock → AreLent o lock grant.values → CanHold (holding_of run) grant
@@ -163,7 +163,7 @@ can_hold o lock rest ticket run pending_room grant laws strict a kept machine is
       cells_fit = omega (arith, fit.cells_fit, sums, kept.cells, lent.whole, kept.cell_room, cells);
     }
 
--- ---- after it
+-- ---- after the grant
 
 numbered_length : (cs : List ℕ) (vs : List Value) → length vs ≡ length cs → length (numbered cs vs) ≡ length cs
 numbered_length [] vs e = refl

@@ -39,7 +39,7 @@ called_within program number arguments can =
     let section = called program number arguments can in
     slice_get_within program.sections.items number section.0 section.1
 
--- its locals
+-- the locals of the call
 pub first_locals : (plan : Plan) (call : Invocation) (x : Section) → CanCall plan.program call.section call.arguments →
     x ≡ get_or plan.program.sections.items call.section x →
     (opening x call.arguments []).locals ≡ locals_at plan call
@@ -49,7 +49,7 @@ first_locals plan call x can is =
     ap (λ (s : Section). (opening s call.arguments []).locals) same
     ∙ sym (ap (λ (s : Option Section). option_map_or (λ (s : Section). (opening s call.arguments []).locals) s []) section.1)
 
--- and few arguments
+-- the arguments that are taken are at most `n`
 taken : {A : Type 0} (n : ℕ) (xs : List A) → length (take n xs) ≤ n
 taken zero xs = omega arith
 taken (suc n) [] = omega arith
@@ -113,7 +113,7 @@ kept_at_first plan b ticket step laws p is =
       few_arguments = few_arguments plan b.section b.arguments.items p.compiled p.fits;
     }
 
--- so the call has begun
+-- the call has begun
 pub has_begun : (m m' : Managed) (ready : ReadyOf) (plan : Plan) (call : Invocation) (room : Room) (ticket : TicketOf) (o : OpenOf) →
     IsRoomAt plan call.section room → Begins m ready.thread room ticket m' →
     o ≡ begun_as plan ticket.thread ready.step room ticket.session.begun call → Began m ready plan call o m'

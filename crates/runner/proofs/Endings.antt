@@ -27,7 +27,7 @@ use Rattle.runner.specs.Working.Opens.{OpenOf, IsOpen, CanGiveBack, entry_of, mo
 use Rattle.runner.specs.Working.Ties.{open_as, over_by, ended_as, IsKeptOpen, IsKeptEnded}
 use Rattle.runner.proofs.Opened.{RunsInOrder, moved_is_open}
 
--- what was read and written is of cells that are held, so it is nothing where there are none
+-- a section without held cells has read and written nothing
 nothing_held : (xs : List (ℕ × Value)) (cell : ℕ) → length xs ≤ 0 → value_at xs cell ≡ None
 nothing_held [] cell e = refl
 nothing_held (x ∷ xs) cell e = absurd (omega (arith, e))
@@ -52,7 +52,7 @@ few_noted held (suc room) consistent cells reads writes = (reads (omega arith), 
 
 module _ (plan : Plan) (ticket : TicketOf) (step : ℕ) (call : Invocation) (run : RunOf) (pending : List Lock) (asked : Bool)
     (pending_room : ℕ) (outcome : Outcome) (run' : RunOf) (grants : List GrantOf) where
-  -- it ran, and its grants are out of its machine
+  -- the section was run to its end, and its grants are no longer in its machine
   pub record IsOver : Type 0 where
     pub kept : IsKeptOpen (open_as plan ticket step call run pending asked) ticket run pending_room
     pub none : pending ≡ []
@@ -117,7 +117,7 @@ module _ (plan : Plan) (ticket : TicketOf) (step : ℕ) (call : Invocation) (run
         no_room = ap (λ (r : RunOf). r.cell_room) t.finished.left;
       }
 
--- ---- its grants
+-- ---- the grants of the section
 
 numbered_apart : (cs : List ℕ) (vs ws : List Value) (r s : List (ℕ × Value)) → length vs ≡ length cs →
     length ws ≡ length cs →
@@ -132,7 +132,7 @@ numbered_apart (c ∷ cs) (v ∷ vs) (w ∷ ws) r s lv lw e =
     let first : v ≡ w = ap (λ (zs : List (ℕ × Value)). (get_or zs 0 (c, v)).1) e in
     ((λ i. first i ∷ rest.0 i), rest.1)
 
--- whole grants of the same locks with the same cells are the same
+-- whole grants of the same locks with the same cells are equal
 alike : (cl : List Lock) (gs hs : List GrantOf) → locks_of gs ≡ locks_of hs → All (IsWhole cl) gs →
     All (IsWhole cl) hs →
     cells_granted cl gs ≡ cells_granted cl hs → gs ≡ hs
@@ -152,7 +152,7 @@ alike cl (g ∷ gs) (h ∷ hs) locks whole others cells =
     (All-tail (IsWhole cl) h hs others) apart.1 in
     λ i. record { lock = lock i; values = apart.0 i } ∷ rest i
 
--- it may be released where its own grants and entry may be given back
+-- the section may be released if its own grants and entry may be given back
 module _ (m : Managed) (o : OpenOf) (ticket : TicketOf) (run : RunOf) (grants : List GrantOf) (outcome : Outcome)
     (kept : IsKeptEnded o ticket run grants (entry_of o outcome)) (over : o.activation.outcome ≡ Some outcome) where
   pub can_end : CanRelease m ticket grants (entry_of o outcome) → CanGiveBack m o

@@ -23,7 +23,7 @@ use Rattle.runner.specs.Working.Opens.{OpenOf, IsOpen, further, moved}
 use Rattle.runner.specs.Working.Ties.{IsKeptOpen}
 use Rattle.runner.proofs.Asked.{also_there}
 
--- an open section that runs
+-- an open section that is running
 pub record RunsInOrder (o : OpenOf) : Type 0 where
   pub is_open : IsOpen o
   pub pending : o.activation.pending ≡ []
@@ -48,7 +48,7 @@ has_code o code is_open of =
           ∙ sym lowered.instructions;
     }
 
--- ---- its next instruction
+-- ---- the next instruction
 
 instruction_there : (o : OpenOf) (i : Option Instr) → next_effect o.plan o.activation ≢ Undefined →
     slice_get (code_at o.plan o.activation.call.section) o.activation.machine.place ≡ i →
@@ -64,7 +64,7 @@ next_there o laws r =
     instruction_there o (slice_get (code_at o.plan o.activation.call.section) o.activation.machine.place)
     (laws.next o.plan o.activation r.is_open.compiled r.is_open.in_order r.pending r.outcome).defined refl
 
--- its place in the code's list is one
+-- the place of the section is a place of its code
 pub place_there : (o : OpenOf) (code : ProgramCode) (h : HasCode o code) → SectionsStayInOrder → RunsInOrder o →
     o.activation.machine.place < length h.made.instructions.items
 place_there o code h laws r = omega (arith, next_there o laws r, ap (λ (is : List Instr). length is) h.is)
@@ -73,14 +73,14 @@ place_there o code h laws r = omega (arith, next_there o laws r, ap (λ (is : Li
 pub code_is_short : (made : SectionCode) → length made.instructions.items < 2 ^ 63
 code_is_short made = omega (arith, made.instructions.ok.0, made.instructions.ok.1, made.instructions.small)
 
--- no more operands than its room
+-- the section's room is enough for its operands
 pub stack_fits : (o : OpenOf) → SectionsStayInOrder → RunsInOrder o →
     length o.activation.machine.stack ≤ o.room.operands
 stack_fits o laws r =
     let next = laws.next o.plan o.activation r.is_open.compiled r.is_open.in_order r.pending r.outcome in
     omega (arith, next.fits, (r.is_open.room next.section next.is).operands)
 
--- it keeps its call
+-- an instruction keeps the call of its section
 moved_call : (o : OpenOf) (e : Effect HeldCells) → (instructed o.plan o.activation e).call ≡ o.activation.call
 moved_call o (Moves m) = refl
 moved_call o (Asks point) = refl
@@ -99,16 +99,16 @@ moved_is_open o laws r =
     moved_by o (next_effect o.plan o.activation) r.is_open
     (laws.moves o.plan o.activation r.is_open.compiled r.is_open.in_order r.pending r.outcome)
 
--- the same, where the effect is known
+-- the same with a known effect
 pub open_after : (o : OpenOf) (e : Effect HeldCells) → SectionsStayInOrder → RunsInOrder o →
     next_effect o.plan o.activation ≡ e →
     IsOpen (further o (instructed o.plan o.activation e))
 open_after o e laws r is =
     subst (λ (x : Effect HeldCells). IsOpen (further o (instructed o.plan o.activation x))) is (moved_is_open o laws r)
 
--- ---- its room
+-- ---- the room of the section
 
--- where it moves to there is room
+-- the section has room after each effect
 effect_fits : (o : OpenOf) (code : ProgramCode) (e : Effect HeldCells) → SectionsStayInOrder →
     IsCodeOf o.plan.program o.plan.lists code →
     RunsInOrder o → next_effect o.plan o.activation ≡ e → FitsRoom o.room.operands e
@@ -127,7 +127,7 @@ pub next_fits : (o : OpenOf) (code : ProgramCode) → SectionsStayInOrder → Is
     RunsInOrder o → FitsRoom o.room.operands (next_effect o.plan o.activation)
 next_fits o code laws of r = effect_fits o code (next_effect o.plan o.activation) laws of r refl
 
--- all locks that it holds or is to be granted have room
+-- the section has room for its pending locks
 pending_fits : (o : OpenOf) (ps : List Lock) → SectionsStayInOrder → IsOpen o → o.activation.pending ≡ ps →
     length ps ≤ o.room.locks
 pending_fits o [] laws is_open is = omega arith
@@ -164,7 +164,7 @@ cells_small o is_open cell large =
 
 -- ---- how the code keeps it
 
--- the section code that the code reads is its section's
+-- the section code that the code reads is that of the section
 pub code_read : (o : OpenOf) (code : ProgramCode) (h : HasCode o code) (x : SectionCode) →
     x ≡ get_or code.sections.items o.activation.call.section x → x ≡ h.made
 code_read o code h x is = is ∙ get_or_from_slice_get code.sections.items o.activation.call.section h.made x h.at

@@ -26,7 +26,7 @@ use Rattle.worlds.specs.Working.States.{IsWell}
 use Rattle.runner.specs.Working.Opens.{OpenOf, IsOpen, Gets, Waits, moved, moved_by}
 use Rattle.runner.specs.Working.Laws.{AreSameOn, SectionsStayPart, memory_of}
 
--- ---- by an instruction
+-- ---- after an instruction
 
 effect_keeps : KeepsHeld → (plan : Plan) (a : Activation) (heap : List Value) (e : Effect HeldCells) →
     next_effect plan a ≡ e → IsPartOf heap a.machine.memory → IsPartOf heap (instructed plan a e).machine.memory
@@ -58,7 +58,7 @@ agrees_value heap (x ∷ xs) cell v a h = elim (eqb_tells x.0 cell) [
   | inr e ↦ agrees_value heap xs cell v a.1 (sym (first_is_not x.0 cell x.1 (value_at xs cell) e.1) ∙ h)
 ]
 
--- and it agrees with values that it has
+-- a heap agrees with the values that it has
 agrees_with : (heap : List Value) (xs : List (ℕ × Value)) →
     ((k : ℕ) (x : ℕ × Value) → slice_get xs k ≡ Some x → slice_get heap x.0 ≡ Some x.1) → Agrees heap xs
 agrees_with heap [] f = tt
@@ -79,14 +79,14 @@ listed_value (y ∷ ys) (suc k) x at = elim (eqb_tells y.0 x.0) [
   | inr e ↦ (let r = listed_value ys k x at in (r.0, first_is_not y.0 x.0 y.1 (value_at ys x.0) e.1 ∙ r.1))
 ]
 
--- what was written is of cells that are held
+-- only held cells were written
 unwritten : (held : HeldCells) (cell : ℕ) → IsConsistent held → value_at held.cells cell ≡ None → value_at held.writes cell ≡ None
 unwritten held cell consistent away = elim (read_or_not (value_at held.writes cell)) [
   | inl w ↦ absurd (none-some w.0 (sym away ∙ consistent.written cell w.0 w.1))
   | inr none ↦ none
 ]
 
--- and so is what was read
+-- only held cells were read
 read_held : (held : HeldCells) (k : ℕ) (x : ℕ × Value) → IsConsistent held → slice_get held.reads k ≡ Some x →
     (v : Value) × (value_at held.cells x.0 ≡ Some v)
 read_held held k x consistent at = elim (read_or_not (value_at held.writes x.0)) [
@@ -96,7 +96,7 @@ read_held held k x consistent at = elim (read_or_not (value_at held.writes x.0))
 
 -- ---- with more cells
 
--- cells that a heap has, appended to those that are held
+-- cells that a heap has, appended to the held ones
 more_part : KeepsUnwritten → (held : HeldCells) (more : List (ℕ × Value)) (heap : List Value) → IsConsistent held →
     Agrees heap more → IsPartOf heap held → IsPartOf heap (record held { cells = held.cells ++ more })
 more_part spared held more heap consistent agrees part = record {
@@ -144,7 +144,7 @@ later_keep written spared size o heap heap' is_open same part =
           let r = read_held held k x well.consistent at in alike x.0 r.0 r.1 ∙ agrees_at heap held.reads k x part.reads at);
     }
 
--- ---- all of it
+-- ---- the whole
 
 pub stay_part : HasWritten → KeepsUnwritten → KeepsSize → KeepsHeld → ValuesAgree → CommittedKeepsSize → SectionsStayPart
 stay_part written spared size keeps agree committed_size = record {

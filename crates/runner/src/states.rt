@@ -22,8 +22,8 @@ use std::alloc::Global;
 use std::marker::Model;
 use std::mem;
 
-/// A thread without an open section. Its value is the thread and the number of its next call. It keeps the memory of its
-/// last section for the next one.
+/// A thread without an open section. Its value is the thread and the number of its next call. It keeps the memory of
+/// its last section for the next one.
 #[derive(Drop)]
 pub struct Ready<'p> {
     thread: u32,
@@ -516,8 +516,8 @@ impl<'p> Asking<'p> {
     }
 
     /// Whether the manager's slot equals the section, as the section's own steps left it. The rest of what
-    /// [`Asking::ask`] requires (the program's layout and ranks, cells with values of their types) isn't tested here: the
-    /// type of the manager's owner guarantees it.
+    /// [`Asking::ask`] requires (the program's layout and ranks, cells with values of their types) isn't tested here:
+    /// the type of the manager's owner guarantees it.
     pub fn fits(&self, manager: &Manager<'p>) -> bool
         ensures { IsTrue result ↔ Knows manager.now (ticket_of self.now) }
     {
@@ -579,9 +579,9 @@ impl<'p> Ended<'p> {
         body.step < usize::MAX && manager.fits(&self.ticket, &body.grants, &self.entry())
     }
 
-    /// Whether the section may be released, for a section whose cells are part of what the manager's entries leave, with
-    /// its writes made. No cell is compared: it tests that the manager knows the section, and that the number of the
-    /// thread's next call has 64 bits.
+    /// Whether the section may be released, for a section whose cells are part of what the manager's entries leave,
+    /// with its writes made. No cell is compared: it tests that the manager knows the section, and that the number of
+    /// the thread's next call has 64 bits.
     pub fn fits_as_part(&self, manager: &Manager<'p>) -> bool
         requires layout { manager.now.layout ≡ self.now.plan.layout }
         requires part { IsPartOf manager.now.values self.now.activation.machine.memory }
@@ -601,8 +601,8 @@ impl<'p> Ended<'p> {
         self.ticket.held()
     }
 
-    /// Ends the section: its entry is appended to the history, and its cells go back to the manager. It requires exactly
-    /// what [`Ended::fits`] tests, which includes that the number of the thread's next call has 64 bits.
+    /// Ends the section: its entry is appended to the history, and its cells go back to the manager. It requires
+    /// exactly what [`Ended::fits`] tests, which includes that the number of the thread's next call has 64 bits.
     pub fn release(self, manager: &mut Manager<'p>) -> (Ready<'p>, Receipt)
         requires { CanBeReleased manager.old self }
         ensures { Released manager.old self.entry result.0 result.1 manager.new }

@@ -140,7 +140,7 @@ outside_numbered (d ∷ cs) [] c out = refl
 outside_numbered (d ∷ cs) (v ∷ vs) c out =
     past (d, v) (numbered cs vs) c (λ e. out (first d cs c e)) ∙ outside_numbered cs vs c (λ has. out (in_rest d c cs has))
 
--- a grant of another lock hasn't the cell
+-- a grant of another lock does not have the cell
 other_grant : (cell_locks : List Lock) (g : GrantOf) (cell : ℕ) (lock : Lock) →
     slice_get cell_locks cell ≡ Some lock → g.lock ≢ lock →
     value_at (cells_in cell_locks g) cell ≡ None
@@ -153,7 +153,7 @@ lock_at [] i g at = absurd (none-some g at)
 lock_at (h ∷ gs) zero g at = first h.lock (locks_of gs) g.lock (ap (λ (x : GrantOf). x.lock) (same_Some h g at))
 lock_at (h ∷ gs) (suc i) g at = in_rest h.lock g.lock (locks_of gs) (lock_at gs i g at)
 
--- the first grant isn't one of the later ones
+-- the first grant is not one of the later ones
 first_other : (h : GrantOf) (gs : List GrantOf) (i : ℕ) (g : GrantOf) → AreDistinct (locks_of (h ∷ gs)) →
     slice_get gs i ≡ Some g → h.lock ≢ g.lock
 first_other h gs i g d at e = distinct_first h.lock (locks_of gs) d (subst (Contains (locks_of gs)) (sym e) (lock_at gs i g at))

@@ -43,7 +43,7 @@ set_past m k v top le =
     top_is m.stack v (λ w rest. or_trap (found (slice_get m.locals k)) (λ old. advances (record m { locals = slice_set m.locals k w }) rest)) top
     ∙ ap (λ o. or_trap (found o) (λ old. advances (record m { locals = slice_set m.locals k v }) (drop 1 m.stack))) (slice_get_past m.locals k le)
 
--- the run after it
+-- the run after a local is set
 abbrev pub set_run : RunOf → ℕ → Value → OperandsOf → RunOf
 set_run run k v o = record run {
   machine = record run.machine { place = run.machine.place + 1; stack = o.stack; locals = slice_set run.machine.locals k v };

@@ -17,7 +17,7 @@ use Rattle.code.specs.Theory.Values.{value_right}
 
 -- ---- a list with one more item, or another one
 
--- where something stands in a list with another item
+-- the items of a list after one of them is replaced
 set_cases : {X : Type 0} (xs : List X) (i j : ℕ) (y x : X) → slice_get (set xs i y) j ≡ Some x → j ≢ i →
     slice_get xs j ≡ Some x
 set_cases [] i j y x at ne = at
@@ -113,7 +113,7 @@ no_more (x ∷ xs) cs once all =
     still cs at.0 c x.0 at.1 (all c v (past x xs c ne ∙ is)) (λ q. ne (sym q))) in
     omega (arith, rest, one_less cs at.0 x.0 at.1)
 
--- ---- what a mark leads to
+-- ---- the note to which a mark leads
 
 no_value : (o : Option Value) → ((v : Value) → o ≡ Some v → ⊥) → o ≡ None
 no_value None not = refl
@@ -141,14 +141,14 @@ one_place (b ∷ cs) (suc p) zero c d at too = absurd (d.0 (contains_at cs p b (
 one_place (b ∷ cs) (suc p) (suc q) c d at too = ap suc (one_place cs p q c d.1 at too)
 
 module _ (cells : List ℕ) (n : NotesOf) (are : AreNotes cells n) where
-  -- if there is room, no more is noted than there are cells
+  -- notes that have room are at most as many as the cells
   pub few : 0 < n.room → length n.list ≤ length cells
   few live = no_more n.list cells are.once (λ c v is.
       let at = at_contained n.list (c, v) (value_somewhere n.list c v is) in
       let m = are.marked live at.0 (c, v) at.1 in
       contains_at cells m.place c m.cell_is)
 
-  -- with cells more
+  -- the same notes with more cells
   pub with_cells : (more : List ℕ) → AreNotes (cells ++ more) n
   with_cells more = record {
     marked = λ live k x at. record {
@@ -168,14 +168,14 @@ module _ (cells : List ℕ) (n : NotesOf) (are : AreNotes cells n) where
         let led = led_to cell mark k (slice_get n.list mark) e in
         (led.0, ap (slice_get n.list) (sym led.2) ∙ led.1)
 
-    -- the note that is found is the cell's
+    -- the note that is found is the note of the cell
     pub found : (k : ℕ) → number_of n place cell ≡ Some k → (v : Value) × (slice_get n.list k ≡ Some (cell, v))
     found k e = led_by_some k (slice_get n.marks place) e
 
     pub found_value : (k : ℕ) → number_of n place cell ≡ Some k → (v : Value) × (value_at n.list cell ≡ Some v)
     found_value k e = ((found k e).0, at_value n.list k (cell, (found k e).0) are.once (found k e).1)
 
-    -- and where none is found there is none
+    -- a cell without such a note has no value
     pub not_found : number_of n place cell ≡ None → value_at n.list cell ≡ None
     not_found e = no_value (value_at n.list cell) (λ v is.
         let at = at_contained n.list (cell, v) (value_somewhere n.list cell v is) in
@@ -236,7 +236,7 @@ module _ (cells : List ℕ) (n : NotesOf) (are : AreNotes cells n) where
       noted_by (Some k) e = again k e
       noted_by None e = anew e
 
-      -- with the cell noted
+      -- the cell is noted
       pub noted_so : AreNotes cells (with_note n place cell v)
       noted_so = noted_by (number_of n place cell) refl
 
@@ -253,7 +253,7 @@ module _ (cells : List ℕ) (n : NotesOf) (are : AreNotes cells n) where
           (value_right n.list ((cell, v) ∷ []) cell (not_found e) ∙ here (cell, v) [] cell refl)
           (λ d ne. append_elsewhere n.list cell v d ne)
 
-      -- its value is set
+      -- the value of the cell is set
       pub noted_with : in_order (with_note n place cell v).list ≡ with_value (in_order n.list) cell v
       noted_with = set_by (number_of n place cell) refl
 
@@ -264,7 +264,7 @@ same_room_by n place cell v None = refl
 pub same_room : (n : NotesOf) (place cell : ℕ) (v : Value) → (with_note n place cell v).room ≡ n.room
 same_room n place cell v = same_room_by n place cell v (number_of n place cell)
 
--- a cell that isn't noted yet can be
+-- a cell that is not noted yet can be noted
 pub one_more : (cells : List ℕ) (n : NotesOf) (are : AreNotes cells n) → Distinct cells → (place cell : ℕ) →
     slice_get cells place ≡ Some cell →
     0 < n.room → Value → place < length n.marks → number_of n place cell ≡ None → length n.list < length cells

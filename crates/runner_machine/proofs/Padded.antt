@@ -1,4 +1,4 @@
--- Marks of which only the first are stored.
+-- Marks, of which only the first ones are stored.
 use Rattle.std.proofs.Common.{◌≡◌, ◌<◌, ◌≤◌, ◌+◌, ◌-◌, ℕ, zero, suc, List, [], ◌∷◌, ◌++◌, length, replicate, set, get_or, Some, None, Option}
 use Rattle.std.proofs.Common.{refl, sym, ap, ◌∙◌, subst, arith, length-append}
 use Rattle.std.specs.Prelude.{slice_get, slice_index_or}
@@ -11,7 +11,7 @@ zero_at zero i lt = absurd (omega (arith, lt))
 zero_at (suc n) zero lt = refl
 zero_at (suc n) (suc i) lt = zero_at n i (omega (arith, lt))
 
--- what stands at a place, stored or not
+-- the mark at an index, stored or not
 padded_from : (xs : List ℕ) (n i : ℕ) → i < length xs + n → slice_get {X = ℕ} (xs ++ replicate {A = ℕ} n 0) i ≡ Some (get_or xs i 0)
 padded_from [] n i lt = zero_at n i (omega (arith, lt))
 padded_from (x ∷ xs) n zero lt = refl
@@ -36,7 +36,7 @@ more_zeros : (a b : ℕ) → zeros a ++ zeros b ≡ zeros (a + b)
 more_zeros zero b = ap zeros (let e : b ≡ 0 + b = omega arith in e)
 more_zeros (suc a) b = ap (λ (t : List ℕ). 0 ∷ t) (more_zeros a b) ∙ ap zeros (let e : suc (a + b) ≡ suc a + b = omega arith in e)
 
--- marks that are stored now
+-- storing more marks does not change a mark
 pub padded_filled : (marks marks' : List ℕ) (place long : ℕ) → length marks ≤ long → place < long → IsFilled marks place marks' →
     padded marks' long ≡ padded marks long
 padded_filled marks marks' place long le lt f =
@@ -57,14 +57,14 @@ length_set [] i v = refl
 length_set (x ∷ xs) zero v = refl
 length_set (x ∷ xs) (suc i) v = ap suc (length_set xs i v)
 
--- one that is set
+-- a mark is set
 pub padded_set : (marks : List ℕ) (place long v : ℕ) → place < length marks →
     padded (set marks place v) long ≡ set (padded marks long) place v
 padded_set marks place long v lt =
     ap (λ (n : ℕ). set marks place v ++ zeros (long - n)) (length_set marks place v)
     ∙ sym (set_front marks (zeros (long - length marks)) place v lt)
 
--- one more mark that is stored
+-- one more mark is stored
 pub one_zero_more : (marks now : List ℕ) (more : ℕ) → now ≡ marks ++ replicate more 0 → now ++ 0 ∷ [] ≡ marks ++ replicate (more + 1) 0
 one_zero_more marks now more is =
     ap (λ (ms : List ℕ). ms ++ 0 ∷ []) is ∙ glue marks (zeros more) (0 ∷ []) ∙ ap (λ (zs : List ℕ). marks ++ zs) (let z : ℕ = 0 in replicate_more more z)

@@ -51,7 +51,7 @@ rest_at x y xs ys c e r s same = elim (eqb_tells x.0 c) [
   | inr h ↦ sym (past x xs c h.1) ∙ same ∙ past y ys c (λ q. h.1 (e ∙ q))
 ]
 
--- a list that rises has nothing of a cell that another has first
+-- a rising list does not have a cell that comes first in another list with a greater first cell
 never_first : (x y : ℕ × Value) (xs ys : List (ℕ × Value)) → x.0 < y.0 → Rise (y.0 + 1) ys →
     value_at (x ∷ xs) x.0 ≡ value_at (y ∷ ys) x.0 → ⊥
 never_first x y xs ys lt s same =
@@ -88,7 +88,7 @@ in_order_values (x ∷ xs) c = elim (eqb_tells x.0 c) [
   | inr h ↦ set_other (in_order xs) x.0 c x.1 h.1 ∙ in_order_values xs c ∙ sym (past x xs c h.1)
 ]
 
--- put in order twice it is as put in order once
+-- putting a list in order twice is the same as once
 pub in_order_twice : (xs : List (ℕ × Value)) → in_order (in_order xs) ≡ in_order xs
 in_order_twice xs =
     same_rising 0 (in_order (in_order xs)) (in_order xs) (in_order_rises (in_order xs)) (in_order_rises xs) (in_order_values (in_order xs))
@@ -97,11 +97,11 @@ rising_once : (n : ℕ) (xs : List (ℕ × Value)) → Rise n xs → EachOnce xs
 rising_once n [] r = tt
 rising_once n (x ∷ xs) r = (none_below (x.0 + 1) x.0 xs r.1 (omega arith), rising_once (x.0 + 1) xs r.1)
 
--- and no cell has two values there
+-- a list in order has each cell once
 pub in_order_once : (xs : List (ℕ × Value)) → EachOnce (in_order xs)
 in_order_once xs = rising_once 0 (in_order xs) (in_order_rises xs)
 
--- two lists that differ only in the value of one cell differ so in order, too
+-- lists that differ in the value of one cell differ in it after they are put in order
 pub set_in_order : (xs ys : List (ℕ × Value)) (c : ℕ) (v : Value) → value_at ys c ≡ Some v →
     ((d : ℕ) → c ≢ d → value_at ys d ≡ value_at xs d) →
     in_order ys ≡ with_value (in_order xs) c v

@@ -10,7 +10,7 @@ pub length-downward : (values : List Value) (n : ℕ) → length (downward value
 length-downward values zero = refl
 length-downward values (suc n) = ap suc (length-downward values n)
 
--- a value past them changes nothing
+-- a value above these does not change them
 pub downward-set : (values : List Value) (i n : ℕ) (v : Value) → n ≤ i →
     downward (slice_set values i v) n ≡ downward values n
 downward-set values i zero v le = refl
@@ -20,7 +20,7 @@ downward-set values i (suc n) v le =
     ap (λ x. x ∷ downward (slice_set values i v) n) (get_or-set_other values i n v (Ref None) other)
     ∙ ap (λ xs. get_or values n (Ref None) ∷ xs) rest
 
--- one at the depth is on the top of the stack that is one deeper
+-- the value at the depth is the top of the stack that is one deeper
 pub pushed_is : (values : List Value) (n : ℕ) (v : Value) → n < length values →
     downward (slice_set values n v) (n + 1) ≡ v ∷ downward values n
 pushed_is values n v lt =

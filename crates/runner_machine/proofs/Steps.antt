@@ -105,7 +105,7 @@ module _ (layout : LayoutOf) (gs : List GrantOf) (reads writes : NotesOf) (ls cs
     pub few_writes : 0 < old.cell_room → length (in_order w.list) ≤ old.cell_room
     few_writes = few_over writes w kept.writes_are kept.writes_room writes_list
 
-  -- ---- a cell that isn't held
+  -- ---- a cell that is not held
 
   module _ (old : HoldingOf) (was : holding_of layout gs reads writes ls cs ≡ old) (cell : ℕ) (out : IsElsewhere layout.cell_locks gs cell) where
     not_there : value_at old.memory.cells cell ≡ None
@@ -117,7 +117,7 @@ module _ (layout : LayoutOf) (gs : List GrantOf) (reads writes : NotesOf) (ls cs
     pub none_stored : (v : Value) → IsStore old cell v false old
     none_stored v = (ap (λ (o : Option Value). write_if_held old.memory o cell v) not_there, refl)
 
-  -- ---- a cell that is
+  -- ---- a cell that is held
 
   module _ (old : HoldingOf) (was : holding_of layout gs reads writes ls cs ≡ old) (cell index offset place : ℕ)
       (spot : IsSpot layout.cell_locks gs cell index offset place) (read : OffsetsFindValues) where
@@ -303,7 +303,7 @@ module _ (layout : LayoutOf) (gs : List GrantOf) (reads writes : NotesOf) (ls cs
             granted_append layout.cell_locks gs (g ∷ [])
             ∙ ap (λ (xs : List (ℕ × Value)). cells_granted layout.cell_locks gs ++ xs) (append_none (cells_in layout.cell_locks g))
 
-    -- as the code makes them
+    -- the invariant after the grant, for the list of grants that the code makes
     pub kept_after : (hs : List GrantOf) → hs ≡ gs ++ g ∷ [] → IsKept layout.cell_locks hs reads writes ls cs
     kept_after hs e = subst (λ (x : List GrantOf). IsKept layout.cell_locks x reads writes ls cs) (sym e) kept_granted
 

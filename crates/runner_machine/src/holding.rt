@@ -135,8 +135,8 @@ impl<'p> Holding<'p> {
         }
     }
 
-    /// Ends the section: moves the grants, the oldest first, into the empty list `grants`, and puts the reads and writes
-    /// in order of the cells' numbers. The room is then empty.
+    /// Ends the section: moves the grants, the oldest first, into the empty list `grants`, and puts the reads and
+    /// writes in order of the cells' numbers. The room is then empty.
     pub fn finish(&mut self, grants: &mut Vec<Grant>)
         requires none { grants.old.items ≡ [] }
         ensures left { self.new ≡ without_grants self.old }

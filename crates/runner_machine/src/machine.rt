@@ -148,8 +148,8 @@ impl<'p> StackMachine<'p> {
         self.held.grant(grant);
     }
 
-    /// Ends the section: moves the grants, the oldest first, into the empty list `grants`, and puts the reads and writes
-    /// in order of the cells' numbers. The rest is unchanged.
+    /// Ends the section: moves the grants, the oldest first, into the empty list `grants`, and puts the reads and
+    /// writes in order of the cells' numbers. The rest is unchanged.
     pub fn finish(&mut self, grants: &mut Vec<Grant>)
         requires none { grants.old.items ≡ [] }
         ensures { IsFinished self.old grants.new.items self.new }

@@ -8,8 +8,8 @@ use source::memory::NoMemory;
 use std::alloc::Global;
 use std::marker::Model;
 
-/// The operand stack of a section, with room for a number of operands. Its value is the operands, the top first, and the
-/// room.
+/// The operand stack of a section, with room for a number of operands. Its value is the operands, the top first, and
+/// the room.
 #[derive(Drop)]
 pub struct Operands {
     // The operands from the bottom up, then unused places.

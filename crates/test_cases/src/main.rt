@@ -5,44 +5,44 @@
 //!
 //! A file is paragraphs, separated by one empty line:
 //!
-//! - A paragraph that begins with `#` is a heading or a note, and skipped.
+//! - A paragraph that begins with `#` is a heading or a note, and is skipped.
 //! - `@ask WORD` names the pass or engine that answers the texts below it:
-//!   - `check`, as at the head of a file: the first line that the engine `check` writes, `accepted`;
-//!   - `lists`: what `check` writes;
-//!   - `graph`: what `order` writes;
-//!   - `listing`: what `listing` writes;
-//!   - `serial N`: what `serial` writes within N turns of each loop;
-//!   - `outcomes`: what `outcomes` writes, for at most 1,000 orders and within 1,000 turns of each loop;
-//!   - `simulate STEPS`: what `simulate` writes after these steps, in a file called `T`; STEPS may be empty;
-//!   - `tree`: `tree`, or the line of the fault of the lexer or the parser;
-//!   - `print`: the tree printed, without the last line feed;
+//!   - `check`, as at the head of a file: the first line that the engine `check` writes, which is `accepted`.
+//!   - `lists`: what `check` writes.
+//!   - `graph`: what `order` writes.
+//!   - `listing`: what `listing` writes.
+//!   - `serial N`: what `serial` writes within N turns of each loop.
+//!   - `outcomes`: what `outcomes` writes, for at most 1,000 orders and within 1,000 turns of each loop.
+//!   - `simulate STEPS`: what `simulate` writes after these steps, in a file called `T`. STEPS may be empty.
+//!   - `tree`: `tree`, or the line of the fault of the lexer or the parser.
+//!   - `print`: the tree printed, without the last line feed.
 //!   - `again`: `same`, or what differs when the tree is printed and read again: a fault, what is printed then, or the
-//!     tokens;
+//!     tokens.
 //!   - `paths`: for each section a line with its name, `:` and its lock paths, and a line for each of its points, with
-//!     its line and column and the lock paths that it uses. If the text has a fault, the line of the fault;
+//!     its line and column and the lock paths that it uses. If the text has a fault, the line of the fault.
 //!   - `points`: for each section a line with its name, `:` and the pairs of its points, counted from 0, of which one
 //!     follows the other, and a line for each of its points, with its line and column, the lock paths in scope there,
-//!     those used at earlier points, and those used at later points. If the text has a fault, the line of the fault;
+//!     those used at earlier points, and those used at later points. If the text has a fault, the line of the fault.
 //!   - `order`: a line with `order:` and the lock classes by rising rank. For each section follow a line with its name
 //!     and `:`, and a line for each of its points, with its line and column, the lock paths wanted there and those that
-//!     are surely held. If the text has a fault, the line of the fault;
-//!   - `tokens`: each token with the bytes where it starts and ends, and `;`; or the line of the fault of the lexer.
+//!     are surely held. If the text has a fault, the line of the fault.
+//!   - `tokens`: each token with the bytes where it starts and ends, and `;`, or the line of the fault of the lexer.
 //!
 //!   An engine is run over the text as a file called `F`. If it ends with status 0 and reports nothing, its answer is
 //!   what it writes, without the last line feed. If it ends with status 1 and writes nothing, the answer is the line
-//!   that it reports. Else it is `status`, its number, and what it writes and reports, each as `Debug` shows it.
-//! - `@head` alone on a line, with lines below it: those and a line feed precede each text below. Without lines below
+//!   that it reports. Otherwise it is `status`, its number, and what it writes and reports, each as `Debug` shows it.
+//! - `@head` alone on a line, with lines below it: these lines and a line feed precede each text below. Without lines below
 //!   it, nothing precedes the texts from there on.
 //! - Any other paragraph is a case: a text, then a line that begins with `=> ` and has the expected answer, which may
-//!   go on over the paragraph's further lines. The text ends before the line feed that ends its last line; with nothing
+//!   go on over the paragraph's further lines. The text ends before the line feed that ends its last line. With nothing
 //!   before `=> ` it is empty.
 //!
 //! In texts, in what precedes them and in expected answers, `<<N|PIECE>>` stands for PIECE written N times, with each
-//! `#` in it replaced by the number of the copy, counted from 0; and `<<N>>` for the character of that number, as
+//! `#` in it replaced by the number of the copy, counted from 0. `<<N>>` stands for the character of that number, as
 //! `<<10>>` for a line feed.
 //!
 //! For each case with another answer, the program prints the file's name, the case's text, the answer found and the one
-//! expected; and for each file the number of its cases and of its failures. A paragraph that is none of the above
+//! expected, and for each file the number of its cases and of its failures. A paragraph that is none of the above
 //! counts as a failure.
 //!
 //! It exits with 0 if all cases pass, 1 if some fail, 3 if reading or writing failed, 4 if memory ran out.

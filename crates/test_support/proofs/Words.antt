@@ -1,4 +1,4 @@
--- What each word asks, and what each paragraph is that begins with words of its kind.
+-- The request that each word stands for, and the paragraph that begins with such words.
 use Rattle.std.proofs.Common.{◌≡◌, ◌++◌, ℕ, List, Option, Some, None, true, false, [], ◌∷◌, rules}
 use Rattle.std.specs.Prelude.{◌↔◌, ◌⊎◌, codes}
 use Rattle.std.specs.Borrow.{Bor}

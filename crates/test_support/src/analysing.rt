@@ -57,8 +57,8 @@ impl Analysed<'_> {
         }
     }
 
-    /// Appends a line for a section with its lock paths, and one for each of its points with its place and the paths that it
-    /// uses.
+    /// Appends a line for a section with its lock paths, and one for each of its points with its place and the paths
+    /// that it uses.
     fn push_section(
         &self,
         alloc: Global,
@@ -98,7 +98,8 @@ impl Analysed<'_> {
         out.finish()
     }
 
-    /// Appends a line for each point of the section: its place, and the lock paths in scope, used before it and used later.
+    /// Appends a line for each point of the section: its place, and the lock paths in scope, used before it and used
+    /// later.
     fn push_points(
         &self,
         alloc: Global,
@@ -173,8 +174,8 @@ impl Analysed<'_> {
         }
     }
 
-    /// Appends a line for each point of the section: its place, and the lock paths that are wanted and surely held before
-    /// it.
+    /// Appends a line for each point of the section: its place, and the lock paths that are wanted and surely held
+    /// before it.
     fn push_wanted(
         &self,
         out: &mut Told,

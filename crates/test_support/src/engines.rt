@@ -56,9 +56,10 @@ fn first_line(text: &str) -> (&str, bool) {
     }
 }
 
-/// The engine's answer in words. Where it is done and has reported nothing, this is what it wrote, without the last line
-/// feed, or only the first line of that where only this is asked for. Where it refused the text with one line and wrote
-/// nothing, this is that line. Otherwise it is the exit status and both texts, which leaves out nothing of an answer.
+/// The engine's answer in words. Where it is done and has reported nothing, this is what it wrote, without the last
+/// line feed, or only the first line of that where only this is asked for. Where it refused the text with one line and
+/// wrote nothing, this is that line. Otherwise it is the exit status and both texts, which leaves out nothing of an
+/// answer.
 pub fn said_by(alloc: Global, engine: Engine<'_>, text: &str) -> Result<String, NoMemory> {
     let Outcome {
         status,

@@ -1,5 +1,5 @@
-//! What tests share: files of cases and how they are judged; what is said of a text, of a compiled program, of a
-//! manager's calls, of failing streams, and of threads that a test holds where it wants.
+//! What tests share: files of cases and how they are judged, and answers about a text, a compiled program, a manager's
+//! calls, failing streams, and threads that a test holds where it wants.
 //!
 //! - [`paragraph`], [`asked`], [`repetition`], [`ending`], [`tally`], [`judging`]: files of texts and the expected answer
 //!   for each. The program `test_cases` says how such a file is written.
@@ -7,10 +7,10 @@
 //! - [`texts`]: answers about a compiled text: where its cells lie, which calls it takes, what the steps of a thread are,
 //!   and what a lock manager answers to the calls of a [`Scenario`].
 //! - [`judge_read`], [`judge_written`], [`judge_answer`]: judge the answer of an engine over failing readers and writers.
-//!   [`writer`]: a failing writer; [`room`]: room for all that is written for a text. [`LOST_UPDATE`], [`HISTORY`]: a
+//!   [`writer`]: a failing writer. [`room`]: room for all that is written for a text. [`LOST_UPDATE`], [`HISTORY`]: a
 //!   program, and what is written for it.
 //! - [`in_turn`], [`in_agreement`], [`over_one_row`], [`side_by_side`], [`by_threads`]: threads that run the sections of a
-//!   text; a [`Scene`] has the text, the calls of the seats ([`SeatCall`]), and which thread is held at which mark
+//!   text. A [`Scene`] has the text, the calls of the seats ([`SeatCall`]), and which thread is held at which mark
 //!   ([`Hold`], [`Mark`]).
 #![tactic(auto)]
 

@@ -7,8 +7,8 @@ use std::alloc::Global;
 use syntax::print_tree;
 use syntax::tree::Tree;
 
-/// The difference after the tree of the text is printed and read again: the line of a fault, or what is then printed, or the
-/// tokens without their places, since a printed tree keeps each token. `same`, where nothing differs.
+/// The difference after the tree of the text is printed and read again: the line of a fault, or what is then printed,
+/// or the tokens without their places, since a printed tree keeps each token. `same`, where nothing differs.
 pub fn difference(alloc: Global, text: &str, tree: &Tree) -> Result<String, NoMemory> {
     let printed = print_tree(alloc, tree)?;
     let again = match read(alloc, printed.as_str())? {

@@ -44,8 +44,8 @@ fn analysed(
     }
 }
 
-/// The answer to a question about the lock paths of the text with this tree: for `points` on its points, otherwise on the
-/// lock paths; or the line of the text's fault, where the order of its classes is not judged.
+/// The answer to a question about the lock paths of the text with this tree: for `points` on its points, otherwise on
+/// the lock paths; or the line of the text's fault, where the order of its classes is not judged.
 fn of_paths(alloc: Global, asked: Asked<'_>, text: &str, tree: &Tree) -> Result<String, NoMemory>
     requires { ReturnsRight (tree_of tree.now) }
 {
@@ -61,7 +61,8 @@ fn of_paths(alloc: Global, asked: Asked<'_>, text: &str, tree: &Tree) -> Result<
     }
 }
 
-/// The answer about the order of the lock classes of the text and what it means for the points, or the line of its fault.
+/// The answer about the order of the lock classes of the text and what it means for the points, or the line of its
+/// fault.
 fn of_order(alloc: Global, text: &str) -> Result<String, NoMemory> {
     let program = match compile(alloc, text.as_bytes()) {
         Ok(program) => program,

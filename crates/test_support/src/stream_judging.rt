@@ -78,9 +78,9 @@ pub fn judge_read(
     judge_answer(alloc, status, out.as_slice(), err.as_slice(), want)
 }
 
-/// Judges the answer for `LOST_UPDATE` where writing fails after `calls` successful calls: the words on the answer without
-/// standard output, and before them the number of failed calls, whether what was written is the whole history, and whether
-/// it is a prefix of the history.
+/// Judges the answer for `LOST_UPDATE` where writing fails after `calls` successful calls: the words on the answer
+/// without standard output, and before them the number of failed calls, whether what was written is the whole history,
+/// and whether it is a prefix of the history.
 pub fn judge_written(alloc: Global, calls: usize, want: &str) -> Result<(), Fail> {
     let mut source = SourceText::new("F", LOST_UPDATE.as_bytes());
     let mut streams = Streams {

@@ -31,8 +31,8 @@ fn end_of(token: &Token) -> usize {
     }
 }
 
-/// Each token of the text, with its first byte and its end where `has_places` is true, and `;`; or the line of the text's
-/// fault.
+/// Each token of the text, with its first byte and its end where `has_places` is true, and `;`; or the line of the
+/// text's fault.
 pub fn tokens_said(alloc: Global, text: &str, has_places: bool) -> Result<String, NoMemory> {
     let tokens = match lex(alloc, text.as_bytes()) {
         Ok(tokens) => tokens,

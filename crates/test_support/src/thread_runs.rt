@@ -44,16 +44,16 @@ pub fn side_by_side<R: Threads + Wait + Sync>(
     said_side_by_side::<Brand, R>(rt, alloc, &program, &row, scene)
 }
 
-/// The text on a run in which two seats of the scene call one after another, with whether what one has seen is a prefix of
-/// what the other has, both ways, before the calls and after.
+/// The text on a run in which two seats of the scene call one after another, with whether what one has seen is a prefix
+/// of what the other has, both ways, before the calls and after.
 pub fn in_agreement<R: Wait>(rt: &R, alloc: Global, scene: &Scene<'_>) -> Result<String, Fail> {
     let program = compile(alloc, scene.text.as_bytes())?;
     let row = Row::new(alloc)?;
     said_in_agreement::<Brand, R>(rt, alloc, &program, &row, scene)
 }
 
-/// The text on two runs that are opened over one row, with a seat each; the first seat calls, then the second: the first
-/// one's answer and end, then the second one's.
+/// The text on two runs that are opened over one row, with a seat each; the first seat calls, then the second: the
+/// first one's answer and end, then the second one's.
 pub fn over_one_row<R: Wait>(rt: &R, alloc: Global, scene: &Scene<'_>) -> Result<String, Fail> {
     let program = compile(alloc, scene.text.as_bytes())?;
     let row = Row::new(alloc)?;

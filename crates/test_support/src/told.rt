@@ -3,8 +3,8 @@
 use source::memory::NoMemory;
 use std::alloc::{AllocError, Global};
 
-/// A text, and whether a growth of it was refused. `finish` returns that error, and a function that appends several pieces
-/// need not return after each.
+/// A text, and whether a growth of it was refused. `finish` returns that error, and a function that appends several
+/// pieces need not return after each.
 #[derive(Drop)]
 pub struct Told {
     /// The text so far, without what was refused.

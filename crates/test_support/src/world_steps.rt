@@ -7,8 +7,8 @@ use std::alloc::Global;
 use std::test::Fail;
 use worlds::event::Event;
 
-/// Takes a step of a thread. Where its memory is refused (`tests/refused_memory.sh`) the world must be unchanged, and the
-/// step is taken again: it then does what it would have done at first.
+/// Takes a step of a thread. Where its memory is refused (`tests/refused_memory.sh`) the world must be unchanged, and
+/// the step is taken again: it then does what it would have done at first.
 fn step_of(alloc: Global, world: &mut World<'_>, thread: u32) -> Result<Event, Fail> {
     let before = simulation_text(alloc, world)?;
     if let Ok(event) = world.step(alloc, thread) {
@@ -21,8 +21,8 @@ fn step_of(alloc: Global, world: &mut World<'_>, thread: u32) -> Result<Event, F
     Ok(world.step(alloc, thread)?)
 }
 
-/// The text with a line for each of the first `steps` steps of a thread of the program, with the status of the thread after
-/// it.
+/// The text with a line for each of the first `steps` steps of a thread of the program, with the status of the thread
+/// after it.
 pub fn stepped(
     alloc: Global,
     program: &Program,

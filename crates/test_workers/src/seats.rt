@@ -264,7 +264,8 @@ fn the_other_lock_holds_no_other(rt: HostRuntime) -> Result<(), Fail> {
     )
 }
 
-/// Once seat 0 is in `f`, seat 1 calls `g` and seat 2 `f`; seat 0 goes on when `g` is answered and seat 2 has waited long.
+/// Once seat 0 is in `f`, seat 1 calls `g` and seat 2 `f`; seat 0 goes on when `g` is answered and seat 2 has waited
+/// long.
 #[test]
 fn who_waits_holds_no_third(rt: HostRuntime) -> Result<(), Fail> {
     let scene = Scene {

@@ -1,4 +1,4 @@
--- What is written out with some helpers, is written out with more.
+-- An expansion with some helpers is an expansion with more.
 use Rattle.std.proofs.Common.{◌≡◌, ◌∙◌, ℕ, zero, suc, List, [], ◌∷◌, ◌++◌, length, Option, Some, sym, ap, subst}
 use Rattle.std.specs.Prelude.{slice_get}
 use Rattle.core_lang.specs.declared.shape.Shape.{Shape}

@@ -18,7 +18,7 @@ use Rattle.core_lang.specs.Meaning.{concluded, opening, back, sequence_by, run_f
 use Rattle.core_lang.specs.Theory.Items.{get_some}
 use Rattle.theorems.specs.Meanings.{ACallDoesWhatTheHelperDoes, ACallGivesWhatTheHelperGives}
 
--- behind a call that binds nothing
+-- a call that binds nothing ends as the helper's body does
 behind_dropped : (shape : Shape) (s : State) (flow : Flow) →
     concluded None shape (after (back (concluded None shape flow) None s) (λ t. GoesOn t)) ≡ concluded None shape flow
 behind_dropped shape s (GoesOn t) = refl

@@ -1,4 +1,4 @@
--- Where all entries are one thread's.
+-- A log whose entries are all of one thread.
 use Rattle.std.proofs.Common.{◌≡◌, ◌∙◌, ◌+◌, ◌==◌, ℕ, List, [], ◌∷◌, map, Some, refl, sym, ap, subst}
 use Rattle.std.proofs.lemmas.Bool.{cond-true, eq-eqb}
 use Rattle.core_lang.specs.Laws.{HaveAtMostOneSerial}
@@ -8,7 +8,7 @@ use Rattle.workers.specs.Seats.{ReplyOf}
 use Rattle.workers.specs.Answers.{reply_at, replies_of, call_in}
 use Rattle.theorems.specs.ClosedRuns.{AreOf, OneSeatIsSerial}
 
--- its answers' calls are the entries'
+-- if all entries are of the thread, the calls of its answers are those of the entries
 calls_of_one : (t at : ℕ) (log : List Commit) → AreOf t log → map call_in (replies_of t at log) ≡ map call_of log
 calls_of_one t at [] own = refl
 calls_of_one t at (c ∷ cs) own =

@@ -21,7 +21,7 @@ use Rattle.theorems.proofs.Counts.{same_at, length_at}
 
 -- ---- lists
 
--- what is left behind some of a list
+-- `xs` has `y` at `k`, and `ys` after it
 pub record IsParted {A : Type 0} (xs : List A) (k : ℕ) (y : A) (ys : List A) : Type 0 where
   pub here : slice_get xs k ≡ Some y
   pub behind : drop (suc k) xs ≡ ys
@@ -74,7 +74,7 @@ own_call t c cs same = cond-true (c.thread == t) (script_call c ∷ calls_by t c
 other_call : (t : ℕ) (c : Commit) (cs : List Commit) → (c.thread ≡ t → ⊥) → calls_by t (c ∷ cs) ≡ calls_by t cs
 other_call t c cs apart = cond-false (c.thread == t) (script_call c ∷ calls_by t cs) (calls_by t cs) (ne_eqb c.thread t apart)
 
--- ---- a history of what is left of the scripts
+-- ---- a history of the remaining calls of the scripts
 
 abbrev pub AreOf : ℕ → List Commit → Type 0
 AreOf n [] = Unit {0}
@@ -125,7 +125,7 @@ first_call program done c cs thread follows there =
 one_thread : (ts : List Thread) (t : ℕ) (a b : Thread) → slice_get ts t ≡ Some a → slice_get ts t ≡ Some b → a ≡ b
 one_thread ts t a b is_a is_b = let same : Some a ≡ Some b = sym is_a ∙ is_b in cc
 
--- of the thread itself
+-- the remaining calls of the thread itself
 own_left : (program : Typed) (done : List ℕ) (c : Commit) (cs : List Commit) (thread : Thread) →
     IsFirst done c cs thread → c.thread < length done →
     (calls_by c.thread cs ≡ numbered c.thread (get_or (one_more done c.thread) c.thread 0) (drop (get_or (one_more done c.thread) c.thread 0) (script thread)))
@@ -176,7 +176,7 @@ goes_on program done c cs follows =
 
 -- ---- among all orders
 
--- the threads of the history are an order of its length, of the history's calls; and there are as many as are left
+-- the threads of the history are an order of its length, with the history's calls, which are all remaining calls
 pub record IsWhole (program : Typed) (done : List ℕ) (h : List Commit) : Type 0 where
   pub among : Contains (orders_of program (length h) done) (order_of h)
   pub calls : calls_of program done (order_of h) ≡ map call_of h

@@ -9,7 +9,7 @@ use Rattle.theorems.specs.ClosedRuns.{IsQuiet, QuietCallsStandAnywhere}
 same_heap : (heap : List Value) (c : Commit) → IsQuiet c → overwritten heap c.writes ≡ heap
 same_heap heap c quiet = ap (overwritten heap) quiet.writes
 
--- the cells are left the same with it
+-- such an entry leaves the cells as they were
 same_cells : (heap : List Value) (first last : List Commit) (c : Commit) → IsQuiet c →
     committed heap (first ++ c ∷ last) ≡ committed heap (first ++ last)
 same_cells heap [] last c quiet = ap (λ h. committed h last) (same_heap heap c quiet)

@@ -1,4 +1,4 @@
--- A run in which all calls end has an end that is told.
+-- A run in which all calls end has an end that is reported.
 use Rattle.std.proofs.Common.{◌≡◌, ◌∙◌, ℕ, ◌+◌, ◌<◌, ◌≤◌, zero, suc, List, [], ◌∷◌, length, map, take, drop, replicate}
 use Rattle.std.proofs.Common.{get_or, slice_get, Option, Some, None, ap, sym, subst, refl, arith}
 use Rattle.std.specs.Option.{option_map_or}
@@ -33,7 +33,7 @@ length_numbered : (t s : ℕ) (xs : List Invocation) → length (numbered t s xs
 length_numbered t s [] = refl
 length_numbered t s (x ∷ xs) = ap (λ n. suc n) (length_numbered t (s + 1) xs)
 
--- ---- the scripts of what is compiled are those of what was accepted
+-- ---- the scripts of the compiled program are those of the accepted one
 
 abbrev pub called : CallData → Invocation
 called d = record { section = d.section; arguments = d.arguments }
@@ -63,7 +63,7 @@ script_at [] t x there = cc
 script_at (y ∷ ts) zero x there = cc
 script_at (y ∷ ts) (suc t) x there = script_at ts t x there
 
--- ---- the history has them
+-- ---- the history has the scripts
 
 whole_script : (plan : Plan) (w : World) (accepted : List Thread) → map script_of accepted ≡ scripts plan →
     FollowsScripts plan w → AllHaveEnded plan w →
@@ -95,7 +95,7 @@ follows_all plan w compiled follows ended =
       nobody = all_of (length threads) w.history (λ position c there. (let n = follows.nobody_else position c there in omega (arith, n, as_many)));
     }
 
--- ---- its cells
+-- ---- the cells that the history leaves
 
 not_away : (plan : Plan) (w : World) (cell : ℕ) (lock : Lock) (heap : List Value) (o : Option Value) →
     HeldCellsAre plan w → FreeCellsAre w heap → AllHaveEnded plan w →

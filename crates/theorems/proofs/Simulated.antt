@@ -29,7 +29,7 @@ drop_none : {A : Type 0} (xs : List A) → xs ≡ drop 0 xs
 drop_none [] = refl
 drop_none (x ∷ xs) = refl
 
--- what is left behind some of a list
+-- `xs` has `y` at `k`, and `ys` after it
 record IsParted {A : Type 0} (xs : List A) (k : ℕ) (y : A) (ys : List A) : Type 0 where
   here : slice_get xs k ≡ Some y
   behind : ys ≡ drop (k + 1) xs
@@ -53,9 +53,9 @@ pushed : {X Y : Type 0} (f : X → Y) (xs : List X) (x : X) (y : Y) (ys : List Y
 pushed f [] x y ys is = ap (λ z. z ∷ ys) is
 pushed f (z ∷ xs) x y ys is = ap (λ zs. f z ∷ zs) (pushed f xs x y ys is)
 
--- ---- a thread's calls that are still to come
+-- ---- the remaining calls of a thread
 
--- the thread has no section open, and what these entries have of it is the rest of its script
+-- the thread has no open section, and its calls among these entries are the rest of its script
 record Waits (plan : Plan) (w : World) (at : ℕ) (cs : List Commit) (t : ℕ) : Type 0 where
   script : List Invocation
   is : script_at plan t ≡ Some script
@@ -95,7 +95,7 @@ first_of_its plan w at c cs waits =
       steps = ap (λ n. in_step t (n + 1) cs) (sym number) ∙ both.1;
     }
 
--- another thread's are still the same
+-- the same for another thread
 others_wait : (plan : Plan) (w after : World) (at : ℕ) (c : Commit) (cs : List Commit) (t : ℕ) → (c.thread ≡ t → ⊥) →
     slice_get after.threads t ≡ slice_get w.threads t → Waits plan w at (c ∷ cs) t → Waits plan after (at + 1) cs t
 others_wait plan w after at c cs t ne same waits =
@@ -121,7 +121,7 @@ record Stands (plan : Plan) (w : World) (heap : List Value) (at : ℕ) (cs : Lis
   threads : (t : ℕ) → t < length plan.program.threads.items → Waits plan w at cs t
   of_scripts : AreOfScripts plan cs
 
--- what it is like once all these calls have run
+-- the world after all these calls have run
 record IsLast (plan : Plan) (w : World) (heap : List Value) (cs : List Commit) (last : World) : Type 0 where
   calls : map script_call last.history ≡ map script_call w.history ++ map script_call cs
   answers : map answer_of last.history ≡ map answer_of w.history ++ map answer_of cs
@@ -136,7 +136,7 @@ call_in_script plan t step x is = ap (λ y. option_map_or (λ (calls : List Invo
 count_scripts : (plan : Plan) → length (scripts plan) ≡ length plan.program.threads.items
 count_scripts plan = length-map plan.program.threads.items script_of
 
--- a thread that has a call is one of the program's
+-- a thread that has a call is a thread of the program
 has_thread : (plan : Plan) (t step : ℕ) (call : Invocation) (x : Option (List Invocation)) → script_at plan t ≡ x →
     call_at plan t step ≡ Some call → t < length plan.program.threads.items
 has_thread plan t step call None is has =

@@ -1,4 +1,4 @@
--- What a closed run of all scripts leaves is told.
+-- The end of a closed run of all scripts is reported.
 use Rattle.std.proofs.Common.{◌≡◌, ◌∙◌, List, [], ◌∷◌, map, ap, subst, sym}
 use Rattle.core_lang.specs.declared.value.Value.{Value}
 use Rattle.core_lang.specs.Laws.{HaveAtMostOneSerial}
@@ -9,7 +9,7 @@ use Rattle.input_files.specs.Turns.{steps_of}
 use Rattle.theorems.specs.EndsTold.{EveryEndIsTold}
 use Rattle.theorems.specs.ClosedRuns.{ClosedRunsAreSimulated, ClosedEndsAreTold, simulated}
 
--- the calls of entries that are of the same calls of the same threads
+-- entries of the same calls of the same threads
 same_calls : (xs ys : List Commit) → map script_call xs ≡ map script_call ys → map call_of xs ≡ map call_of ys
 same_calls [] [] same = cc
 same_calls [] (y ∷ ys) same = cc

@@ -31,7 +31,7 @@ use Rattle.worlds.specs.Working.Ahead.{IsReadyWorld, WorldsStayReady}
 use Rattle.worlds.specs.Waiting.{IsNoWait, RisingGoesOn}
 use Rattle.theorems.specs.ClosedRuns.{IsAtRest, IsNext, HasRunWhole, CallsEndAlone}
 
--- the laws that this stands on
+-- the laws on which this stands
 pub record Laws : Type 0 where
   pub moves : MovesAlike
   pub asks : AsksAlike
@@ -60,7 +60,7 @@ set_same [] i x y h = absurd cc
 set_same (z ∷ xs) zero x y h = refl
 set_same (z ∷ xs) (suc i) x y h = set_same xs i x y h
 
--- cells that are all there, with these values
+-- all cells are in the world, with these values
 full : (cells : List (Option Value)) (heap : List Value) → length cells ≡ length heap →
     ((k : ℕ) → slice_get cells k ≡ Some None → ⊥) →
     ((k : ℕ) (v : Value) → slice_get cells k ≡ Some (Some v) → slice_get heap k ≡ Some v) → cells ≡ map (λ (v : Value). Some v) heap
@@ -100,18 +100,18 @@ at_rest laws plan w heap sound none is =
 
 -- ---- the turn of a call
 
--- a thread with a section open, and with none
+-- a thread with an open section, and a thread without one
 abbrev pub open_at : ℕ → Activation → ThreadState
 open_at s a = record { step = s; active = Some a }
 
 abbrev pub closed_at : ℕ → ThreadState
 closed_at s = record { step = s; active = None }
 
--- where an open section's step leads
+-- the world after a step of an open section
 abbrev moved_to : World → ℕ → ℕ → List (Option Value) → Activation → World
 moved_to w t s cells a = record { cells = cells; history = w.history; threads = slice_set w.threads t (open_at s a) }
 
--- what is there when it is over
+-- the world after the call
 pub record IsOver (plan : Plan) (first : World) (next : Scheduled) (finished : Finished) (w : World) : Type 0 where
   pub is : SoundAndReady plan w
   pub none_open : (u : ℕ) (b : Activation) → HasOpen w u b → ⊥
@@ -128,14 +128,14 @@ module _ (laws : Laws) (plan : Plan) (ok : IsCompiled plan) (first : World) (nex
   abbrev heap : List Value
   heap = committed plan.layout.opening first.history
 
-  -- so many steps of the thread end it
+  -- some number of the thread's steps ends the section
   abbrev Leads : World → Type 0
   Leads w = (count : ℕ) × IsOver plan first next finished (world_after plan w (replicate count next.thread))
 
   earlier : (w : World) → Leads (happens plan w next.thread).1 → Leads w
   earlier w l = (suc l.0, l.1)
 
-  -- the section is the only one open, and all else is as it was
+  -- the section is the only open one, and all else is as it was
   record Along (w : World) (a : Activation) : Type 0 where
     is : SoundAndReady plan w
     at : slice_get w.threads next.thread ≡ Some (open_at next.step a)
@@ -145,7 +145,7 @@ module _ (laws : Laws) (plan : Plan) (ok : IsCompiled plan) (first : World) (nex
     call : a.call ≡ next.call
     begun : a.begun ≡ length first.history
 
-  -- alone, it ends so after so many more instructions
+  -- alone, the section ends this way after at most `r` more instructions
   abbrev Left : ℕ → Activation → Type 0
   Left r a =
       exec load_from store_to plan.program.shape (code_at plan a.call.section) r (on_heap heap a.machine) ≡ halted finished
@@ -153,7 +153,7 @@ module _ (laws : Laws) (plan : Plan) (ok : IsCompiled plan) (first : World) (nex
   is_open : (w : World) (a : Activation) → Along w a → HasOpen w next.thread a
   is_open w a along = (open_at next.step a, along.at, refl)
 
-  -- ---- a step that leaves it open
+  -- ---- a step after which the section is still open
 
   others_only : (w after : World) (a b : Activation) → Along w a →
       ((u : ℕ) → (next.thread ≡ u → ⊥) → slice_get after.threads u ≡ slice_get w.threads u) →
@@ -193,7 +193,7 @@ module _ (laws : Laws) (plan : Plan) (ok : IsCompiled plan) (first : World) (nex
   free_lock w a lock rest None moves_on = refl
   free_lock w a lock rest (Some h) moves_on = absurd moves_on
 
-  -- nobody else is there who could hold the lock
+  -- no other thread could hold the lock
   goes : (w : World) (a : Activation) → Along w a → IsNoWait (happens plan w next.thread).0
   goes w a along =
       let on = laws.goes_on plan w (laws.ready.rises plan w along.is.1) next.thread a (is_open w a along) in
@@ -211,7 +211,7 @@ module _ (laws : Laws) (plan : Plan) (ok : IsCompiled plan) (first : World) (nex
       let free = subst (λ (r : Event × World). IsNoWait r.0) step (goes w a along) in
       step ∙ ap (asks plan w next.thread (open_at next.step a) a lock rest) (free_lock w a lock rest (holder w lock) free)
 
-  -- where it goes on once it is granted all that it asked for
+  -- the section goes on once it is granted all that it asked for
   abbrev GoesOn : ℕ → Type 0
   GoesOn r =
       (w : World) (a : Activation) → Along w a → a.pending ≡ [] → a.outcome ≡ None → Left r a → Leads w
@@ -254,7 +254,7 @@ module _ (laws : Laws) (plan : Plan) (ok : IsCompiled plan) (first : World) (nex
       (stepped w a (instructed plan a (next_effect plan a)) event.Moved w.cells along (moves w a along pending none)
       (same_call a (next_effect plan a)) (same_begun a (next_effect plan a)))
 
-  -- what the instruction does alone, on the heap
+  -- the effect of the instruction alone, on the heap
   alike : (a : Activation) (r : ℕ) (x : Effect (List Value)) → Left (suc r) a →
       act load_from store_to plan.program.shape (slice_get (code_at plan a.call.section) a.machine.place) (on_heap heap a.machine) ≡ x →
       proceed load_from store_to plan.program.shape (on_heap heap a.machine) x
@@ -263,7 +263,7 @@ module _ (laws : Laws) (plan : Plan) (ok : IsCompiled plan) (first : World) (nex
       ap (λ y. proceed load_from store_to plan.program.shape (on_heap heap a.machine) y
       (exec load_from store_to plan.program.shape (code_at plan a.call.section) r)) (sym is) ∙ left
 
-  -- its cells are cells of the heap
+  -- the cells of the section are cells of the heap
   covered : (w : World) (a : Activation) → Along w a → IsCovered a.machine.memory.cells heap
   covered w a along cell v there =
       let sound = along.is.0 in
@@ -273,7 +273,7 @@ module _ (laws : Laws) (plan : Plan) (ok : IsCompiled plan) (first : World) (nex
       let long = sound.size in
       omega (arith, within, size, long)
 
-  -- the heap has what it has read
+  -- the heap agrees with what the section has read
   agrees : (w : World) (a : Activation) → Along w a → Agrees heap a.machine.memory.reads
   agrees w a along =
       subst (λ (h : List Commit). Agrees (committed plan.layout.opening h) a.machine.memory.reads) along.history
@@ -306,7 +306,7 @@ module _ (laws : Laws) (plan : Plan) (ok : IsCompiled plan) (first : World) (nex
     | inr ne ↦ ne (sym (along.only u b (o.0, sym (same u ne) ∙ o.1, o.2)))
   ]
 
-  -- it ends as it does alone
+  -- the section ends as it does alone
   abbrev EndsSo : Activation → Outcome → Type 0
   EndsSo a outcome =
       Halted outcome (overwritten heap a.machine.memory.writes) a.machine.prints ≡ halted finished

@@ -20,8 +20,8 @@ abbrev pub AreOf : ℕ → List Commit → Type 0
 AreOf t [] = ⊤
 AreOf t (c ∷ cs) = (c.thread ≡ t) × AreOf t cs
 
--- the history's calls are these, and the history says what they answer, print and leave, whatever that is, when they run
--- whole one after another
+-- the history's calls are these, and the history says what they answer, print and leave, whatever that is, when they
+-- run whole one after another
 pub record IsSerialRun (plan : Plan) (log : List Commit) (values : List Value) (calls : List Invocation) : Type 0 where
   pub calls_are : map call_of log ≡ calls
   pub runs : SerialFromOpening plan.accepted calls (map answer_of log) values
@@ -62,7 +62,8 @@ pub record IsNext (plan : Plan) (w : World) (next : Scheduled) : Type 0 where
   pub call : call_at plan next.thread next.step ≡ Some next.call
 
 -- between two worlds exactly this call has run: the history has one more entry, which is of the call, with this end and
--- these prints, and whose begin is the earlier length of the history; no section is open, and the cells have these values
+-- these prints, and whose begin is the earlier length of the history; no section is open, and the cells have these
+-- values
 pub record HasRunWhole (before after : World) (call : Scheduled) (ended : Ended) (heap : List Value) : Type 0 where
   pub entry : Commit
   pub history : after.history ≡ before.history ++ entry ∷ []
@@ -71,9 +72,9 @@ pub record HasRunWhole (before after : World) (call : Scheduled) (ended : Ended)
   pub begun : entry.begun ≡ length before.history
   pub rest : IsAtRest after heap
 
--- the law: in a world that is reached by steps and in which no section is open, a thread's next call that ends when it is
--- run whole on the cells comes to the same end by some number of steps of its thread alone, with the same prints, and leaves
--- the same cells
+-- the law: in a world that is reached by steps and in which no section is open, a thread's next call that ends when it
+-- is run whole on the cells comes to the same end by some number of steps of its thread alone, with the same prints,
+-- and leaves the same cells
 abbrev pub CallsEndAlone : Type 0
 CallsEndAlone =
     (plan : Plan) (steps : List ℕ) (next : Scheduled) (heap : List Value) (finished : Finished) → IsCompiled plan →
@@ -81,8 +82,8 @@ CallsEndAlone =
     IsAtRest w heap → IsNext plan w next → WholeCall plan.program next.call heap finished →
     (count : ℕ) × HasRunWhole w (world_after plan w (replicate count next.thread)) next (end_of finished) finished.heap
 
--- a turn for each entry, in which steps of its thread alone run its call whole: to the entry's end and prints, and to the
--- cells that the entry leaves
+-- a turn for each entry, in which steps of its thread alone run its call whole: to the entry's end and prints, and to
+-- the cells that the entry leaves
 abbrev pub RunWhole : Plan → World → List Value → List Commit → List Turn → Type 0
 RunWhole plan w heap [] [] = ⊤
 RunWhole plan w heap [] (turn ∷ turns) = ⊥

@@ -32,9 +32,9 @@ left_by plan answers history heap = record {
   answers = answers_after plan.accepted (none_done plan.accepted) (order_of history) (map answer_of history) (no_answers answers plan.accepted);
 }
 
--- the order of the history is one of the program's calls, and its calls are the history's. Run whole one after another from
--- the opening cells, they end and print as the history says, and leave the cells of the world. What is seen of that is
--- reported
+-- the order of the history is one of the program's calls, and its calls are the history's. Run whole one after another
+-- from the opening cells, they end and print as the history says, and leave the cells of the world. What is seen of
+-- that is reported
 pub record IsAmongTold (plan : Plan) (w : World) (asked : Asked) (told : List Told) : Type 0 where
   pub heap : List Value
   pub order : Contains (orders plan.accepted) (order_of w.history)

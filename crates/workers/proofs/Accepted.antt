@@ -1,4 +1,5 @@
--- Calls that run on the compiled program run the same on the program as it was accepted, before its helpers are expanded.
+-- Calls that run on the compiled program run the same on the program as it was accepted, before its helpers are
+-- expanded.
 use Rattle.std.proofs.Common.{◌≡◌, ℕ, ℤ, List, [], ◌∷◌, length, map, refl, sym, ap, ◌∙◌, subst, slice_get, Some, take}
 use Rattle.std.proofs.lemmas.List.{length-map}
 use Rattle.std.proofs.lemmas.List.Elements.{All-head, All-tail}
@@ -84,7 +85,7 @@ log_accepted plan log serial alike ok can sound =
     history_accepted plan log (committed plan.layout.opening log) alike ok can
     (subst (λ (h : List Value). Serial plan.program h (map call_of log) (map answer_of log) (committed plan.layout.opening log)) opening runs)
 
--- those of a manager's history
+-- the calls of a manager's history
 pub closed_accepted : (plan : Plan) (m : Managed) → LegalIsSerial → CompiledRunAlike → IsCompiled plan → IsManagerOf plan m →
     IsKept m → RunsAsAccepted plan m.history m.values
 closed_accepted plan m serial alike ok d kept =
@@ -116,7 +117,7 @@ accepted_from plan floor position o e serial alike expansions ok can its entered
     } in
     subst (λ (ps : List ℤ). IsAnswerAsAccepted plan o.activation.call position e.outcome ps) prints is
 
--- and so does the answer that has its parts
+-- the same for an answer with the parts of the entry
 pub answered_as_accepted : (plan : Plan) (position section floor : ℕ) (arguments : List Value) (ready : ReadyOf) (b o : OpenOf)
     (e : Commit) (told : Done) → LegalIsSerial → CompiledRunAlike → ExpansionsRunAlike → IsCompiled plan →
     CanCall plan.program section arguments → HasBegun plan (record { section = section; arguments = arguments }) ready b →

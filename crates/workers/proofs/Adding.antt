@@ -1,4 +1,4 @@
--- The exchange that adds an entry keeps the rule, and so does a look.
+-- Adding an entry by an exchange keeps the rule, and so does a look.
 use Rattle.std.proofs.Common.{◌≡◌, ℕ, ◌+◌, ◌<◌, ◌==◌, Bool, true, false, List, [], ◌∷◌, ◌++◌, length, refl, ap, sym, subst, arith, inl, length-append, None}
 use Rattle.std.proofs.lemmas.List.{append-nil}
 use Rattle.std.proofs.lemmas.Bool.Decides.{nat_tests}
@@ -41,7 +41,7 @@ adds_goes log v e old len pre false is =
       rw is tt,
     )
 
--- whatever the log is, the exchange adds the entry to all that was seen, or finds that the log is longer
+-- for each log, the exchange adds the entry after all that was seen, or finds that the log is longer
 pub adds_moves : (v : List Commit) (e : Commit) (old : ℕ) → length v ≡ old
     → Moves IsKept shown (moved e) 0 (v, (no_nib, None)) (λ n. either (n == old) (old + 1) n) (Adds (step 0 old (old + 1) e) (v, (no_nib, None)))
 adds_moves v e old len cs log kept pre away =
@@ -63,7 +63,7 @@ looks_goes log v e =
       n,
     )
 
--- whatever the row is, a look finds how many entries it has
+-- for each row, a look finds the number of its entries
 pub looks_moves : (v : List Commit) (e : Commit) →
     Moves IsKept shown (moved e) 0 (v, (no_nib, None)) (λ n. n) (Looks (step 0 0 0 e) (v, (no_nib, None)))
 looks_moves v e cs log kept pre away =

@@ -24,7 +24,7 @@ nothing = record {
   prints = [];
 }
 
--- none of a thread from one place on, so none from a later one on
+-- a thread without entries from one place on has none from a later place on
 pub none_behind : (t a b : ℕ) (log : List Commit) → a ≤ b → NoneOf t (drop a log) → NoneOf t (drop b log)
 none_behind t a b log le none =
     let further : drop (b - a) (drop a log) ≡ drop b log = drop-drop (b - a) a log ∙ ap (λ (n : ℕ). drop n log) (omega (arith, le)) in
@@ -47,7 +47,7 @@ last_before ends log t from there h none false is =
     ap (λ (c : Commit). c.thread) (get_or-drop from log k d) ∙ ap (λ (i : ℕ). (get_or log i d).thread) at ∙ last.1 in
     absurd (none k d within found)
 
--- none of a thread above those of the entries
+-- a thread above those of all entries has no entry
 pub none_above : (t n b : ℕ) (log : List Commit) → All (λ (c : Commit). c.thread < n) log → n ≤ t → NoneOf t (drop b log)
 none_above t n b log below le =
     All-drop (λ (c : Commit). c.thread ≢ t) b log
@@ -103,7 +103,7 @@ last_at ends log e t t' n d is below h there end false same =
     get_or-set_other ends t t' (length log + 1) 0 apart in
     kept_at log e n d t' (h.last t' n d there (end ∙ kept))
 
--- of no entries each thread has none
+-- in an empty log no thread has an entry
 pub no_ends : (ends : List ℕ) → All (λ (n : ℕ). n ≡ 0) ends → AreEnds ends []
 no_ends ends none = record {
   threads = All-nil (λ (c : Commit). c.thread < length ends);
@@ -111,7 +111,7 @@ no_ends ends none = record {
   last = λ t n d lt is. absurd (omega (arith, is, none t 0 lt));
 }
 
--- one more entry, with which its thread's last one stands at the end
+-- one more entry, which is its thread's last one
 pub ends_more : (ends : List ℕ) (log : List Commit) (e : Commit) (t : ℕ) → t ≡ e.thread → t < length ends → AreEnds ends log →
     AreEnds (slice_set ends t (length log + 1)) (log ++ e ∷ [])
 ends_more ends log e t is below h =

@@ -25,7 +25,7 @@ prefix_whole [] (y ∷ ys) p le = absurd (omega arith)
 prefix_whole (x ∷ xs) [] p le = absurd (cc (p.1))
 prefix_whole (x ∷ xs) (y ∷ ys) p le = let rest = prefix_whole xs ys (p.0, cc (p.1)) (omega arith) in cc (p.1, rest)
 
--- which of two prefixes of one list is a prefix of the other
+-- of two prefixes of one list, one is a prefix of the other
 one_begins_at : {X : Type 0} (xs ys zs : List X) (a b : ℕ) → a ≡ length xs → b ≡ length ys → IsPrefix xs zs → IsPrefix ys zs
     → (t : Bool) → leb a b ≡ t → MatchBool t (Begins xs ys) (Begins ys xs)
 one_begins_at xs ys zs a b one other p q true is =

@@ -28,7 +28,7 @@ pub has_cells : (program : Typed) (heap : List Value) → IsHeap program heap �
 has_cells program heap h =
     have_length program.shape (cell_types program) heap h ∙ length-map program.cells.items (λ (cell : Cell). cell.value_type)
 
--- nothing is entered
+-- the log gets no entry
 pub manager_kept : (plan : Plan) (m m' : Managed) → IsManagerOf plan m → KeepsEntries m m' → IsManagerOf plan m'
 manager_kept plan m m' d k = record {
   layout = k.layout ∙ d.layout;
@@ -43,7 +43,7 @@ called : (o : OpenOf) → IsOpen o → CanCall o.plan.program o.activation.call.
 unfolding CanCall
 called o is_open = let ready = is_open.in_order.ready in (ready.section, ready.is, ready.fit)
 
--- an entry is entered
+-- the log gets an entry
 pub released_manager : (m m' : Managed) (o : OpenOf) (ready : ReadyOf) (receipt : ReceiptOf) → SectionsStayInOrder →
     TrueOfOneMore →
     IsManagerOf o.plan m → IsOpen o → CanBeReleased m o → Released m o ready receipt m' → IsManagerOf o.plan m'

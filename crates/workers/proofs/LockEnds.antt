@@ -1,5 +1,5 @@
--- The length of the log when each lock was last given back, and the consequences for the cells of locks that weren't
--- given back since.
+-- The length of the log when each lock was last released, and the consequences for the cells of locks that have not
+-- been released since.
 use Rattle.std.proofs.Common.{◌≡◌, ◌<◌, ◌≤◌, ◌+◌, ◌-◌, ℕ, zero, suc, Bool, true, false, List, [], ◌∷◌, ◌++◌, length, drop, take}
 use Rattle.std.proofs.Common.{Some, refl, sym, ap, ◌∙◌, subst, arith, inl, inr, get_or, set, slice_index_or, ◌⊎◌}
 use Rattle.std.specs.Prelude.{slice_get}
@@ -42,7 +42,7 @@ none_push : (cell : ℕ) (log : List Commit) (e : Commit) → NoneWrites cell lo
 none_push cell [] e none spared = (spared, tt)
 none_push cell (c ∷ log) e none spared = (none.0, none_push cell log e none.1 spared)
 
--- one more entry that doesn't write it
+-- one more entry that does not write the cell
 none_more : (cell a : ℕ) (log : List Commit) (e : Commit) → WritesNot cell e.writes → NoneWrites cell (drop a log) → (b : Bool) →
     leb a (length log) ≡ b → NoneWrites cell (drop a (log ++ e ∷ []))
 none_more cell a log e spared none true is =
@@ -62,7 +62,7 @@ none_at_end cell a log le = subst (NoneWrites cell) (sym (drop_all a log le)) tt
 pub no_entries : (cell k : ℕ) → NoneWrites cell (drop {A = Commit} k [])
 no_entries cell k = none_at_end cell k [] (omega arith)
 
--- ---- locks that are given back
+-- ---- locks that are released
 
 set_at : (ends : List ℕ) (number n long : ℕ) → number < length ends →
     ((n ≡ number) × (get_or (set ends number long) n 0 ≡ long)) ⊎ (get_or (set ends number long) n 0 ≡ get_or ends n 0)
@@ -78,7 +78,7 @@ none_given e long = record {
   others = λ n. inr refl;
 }
 
--- it isn't one of the locks
+-- releasing a lock that the layout does not have changes nothing
 pub not_given : (e : LockEndsOf) (lock : Lock) (long : ℕ) → (Contains e.layout.locks lock → ⊥) → AreGivenBack e (lock ∷ []) long e
 not_given e lock long away = record {
   layout = refl;
@@ -96,7 +96,7 @@ one_given e lock long number distinct here within = record {
   others = λ n. elim (set_at e.ends number n long within) [ inl now ↦ inl now.1 | inr kept ↦ inr kept ];
 }
 
--- some, and then others
+-- some locks are released, and then others
 both_given : (e e1 e2 : LockEndsOf) (done more : List Lock) (long : ℕ) → AreGivenBack e done long e1 → AreGivenBack e1 more long e2 →
     AreGivenBack e (done ++ more) long e2
 both_given e e1 e2 done more long first then = record {
@@ -124,7 +124,7 @@ more_given e e1 e2 locks k long d lt first then =
 
 -- ---- one more entry
 
--- who writes only cells of its locks spares those of another
+-- an entry that writes only cells of its locks does not write a cell of another lock
 spares : (cell_locks held : List Lock) (cell : ℕ) (lock : Lock) (ws : List (ℕ × Value)) → slice_get cell_locks cell ≡ Some lock →
     (Contains held lock → ⊥) → ((k : ℕ) (d : ℕ × Value) → k < length ws → IsOwnWrite cell_locks held (get_or ws k d)) → WritesNot cell ws
 spares cell_locks held cell lock [] at away own = tt
@@ -183,7 +183,7 @@ module _ (plan : Plan) (e : LockEndsOf) (seen log : List Commit) (floor : ℕ) (
       cells = λ cell lock at c. same_cell cell lock (all_contained (IsBefore e floor) locks lock all c) at;
     }
 
--- and nothing was entered since
+-- no entry was added since
 no_rest : (rest : List Commit) → length rest ≤ 0 → rest ≡ []
 no_rest [] le = refl
 no_rest (c ∷ rest) le = absurd (omega (arith, le))
@@ -198,7 +198,7 @@ as_it_was plan locks seen log begins long =
       cells = λ cell lock at c. ap (λ (l : List Commit). slice_get (committed plan.layout.opening l) cell) same;
     }
 
--- ---- by the state under the Mutex
+-- ---- the claims, by the state under the Mutex
 
 module _ (plan : Plan) (m : Managed) (of : IsManagerOf plan m) (kept : IsKept m) (seen log : List Commit) (is : log ≡ m.history)
     (begins : Begins seen log) (floor : ℕ) (long : floor ≡ length seen) (locks : List Lock)
@@ -214,7 +214,7 @@ module _ (plan : Plan) (m : Managed) (of : IsManagerOf plan m) (kept : IsKept m)
         as_seen plan e seen m.history floor commuting layout (subst (λ (l : LayoutOf). IsLegal l.opening m.history) of.layout kept.legal) ends
         (subst (Begins seen) is begins) long size locks all
 
--- an entry of a section that holds these locks
+-- the log gets an entry of a section whose locks are released
 pub ends_entered : (plan : Plan) (m m' : Managed) (e e' : LockEndsOf) (entry : Commit) (locks : List Lock) (count : ℕ) → IsManagerOf plan m →
     e.layout ≡ plan.layout → AreEndsOf e m.history → AreGivenBack e locks count e' → count ≡ length m'.history →
     m'.history ≡ m.history ++ entry ∷ [] → All (IsOwnWrite m.layout.cell_locks locks) entry.writes → AreEndsOf e' m'.history

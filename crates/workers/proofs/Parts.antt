@@ -27,14 +27,14 @@ begins_part plan log o none =
     let nothing : IsPartOf (committed plan.layout.opening log) none_held = record { now = λ cell v h. absurd (none-some v h); reads = tt } in
     subst (IsPartOf (committed plan.layout.opening log)) (sym none) nothing
 
--- it stays so while it runs
+-- the cells stay part of the heap while the section runs
 pub ran_part : SectionsStayPart → (plan : Plan) (log : List Commit) (most count : ℕ) (o o' : OpenOf) → Ran most o count o' →
     IsPartAt plan log o → IsPartAt plan log o'
 ran_part laws plan log most count o o' ran part =
     let heap = committed plan.layout.opening log in
     subst (λ (p : OpenOf). IsPartOf heap (memory_of p)) (sym ran.is) (laws.moves o count heap part)
 
--- what a section is answered leaves the entries
+-- the answer to a section's request keeps the entries
 pub answered_kept : (m m' : Managed) (o : OpenOf) (asked : Asked) → Answered m o asked m' → KeepsEntries m m'
 answered_kept m m' o (Got next) a = record {
   layout = ap (λ (v : Managed). v.layout) a.manager;
@@ -49,7 +49,7 @@ answered_kept m m' o (Waits o' holder) a = record {
   values = ap (λ (v : Managed). v.values) a.manager;
 }
 
--- the state under the Mutex where nothing is entered
+-- the state under the Mutex, when no entry is added
 pub guarded_kept : (plan : Plan) (m m' : Managed) (log : List Commit) (e : LockEndsOf) → KeepsEntries m m' → IsManagerOf plan m →
     log ≡ m.history → e.layout ≡ plan.layout → AreEndsOf e m.history →
     IsManagerOf plan m' × (log ≡ m'.history) × (e.layout ≡ plan.layout) × AreEndsOf e m'.history
@@ -57,7 +57,7 @@ guarded_kept plan m m' log e kept of is layout ends =
     (manager_kept plan m m' of kept, is ∙ sym kept.history, layout, subst (AreEndsOf e) (sym kept.history) ends)
 
 module _ (laws : SectionsStayPart) (plan : Plan) (m : Managed) (of : IsManagerOf plan m) (kept : IsKept m) where
-  -- what the entries leave
+  -- the heap that the entries leave
   left : m.values ≡ committed plan.layout.opening m.history
   left = kept.values ∙ ap (λ (l : LayoutOf). committed l.opening m.history) of.layout
 
@@ -65,7 +65,7 @@ module _ (laws : SectionsStayPart) (plan : Plan) (m : Managed) (of : IsManagerOf
     pub same_layout : m.layout ≡ o.plan.layout
     same_layout = of.layout ∙ ap (λ (p : Plan). p.layout) (sym is)
 
-    -- nothing else wrote its cells since
+    -- no other section has written the cells since
     pub still_part : (locks : List Lock) (seen : List Commit) → locks ≡ o.activation.held → AreAsSeen plan locks seen m.history →
         IsPartAt plan seen o → IsPartOf m.values (memory_of o)
     still_part locks seen its as_seen part =
@@ -81,14 +81,14 @@ module _ (laws : SectionsStayPart) (plan : Plan) (m : Managed) (of : IsManagerOf
     answered_part (Got next) m' answered part = laws.gets m m' o (asked_open (Got next)) kept same_layout is_open answered part
     answered_part (Waits o' holder) m' answered part = laws.waits m m' o o' holder m.values answered part
 
-    -- nor does what it is answered change that
+    -- the answer to the section's request keeps the cells part of the heap
     pub asked_part : (asked : Asked) (m' : Managed) (log : List Commit) → log ≡ m.history → Answered m o asked m' →
         IsPartOf m.values (memory_of o) → IsPartAt plan log (asked_open asked)
     asked_part asked m' log same answered part =
         subst (λ (l : List Commit). IsPartOf (committed plan.layout.opening l) (memory_of (asked_open asked))) (sym same)
         (subst (λ (h : List Value). IsPartOf h (memory_of (asked_open asked))) left (answered_part asked m' answered part))
 
-    -- what it wrote is of cells of its locks
+    -- the section wrote only cells of its locks
     pub own_entry : (e : Commit) (ready : ReadyOf) (receipt : ReceiptOf) (m' : Managed) → CanBeReleased m o → Released m o ready receipt m' →
         IsItsEntry o e → All (IsOwnWrite m.layout.cell_locks o.activation.held) e.writes
     own_entry e ready receipt m' can r its =

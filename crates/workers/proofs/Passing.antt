@@ -15,7 +15,7 @@ use Rattle.workers.specs.Working.Within.{IsSeat, IsIn, SeesOwn}
 abbrev first_if : Bool → ReplyOf → List ReplyOf → List ReplyOf
 first_if b r rs = if b then r ∷ rs else rs
 
--- those of the first entries, then those of the others
+-- the answers of the first entries, followed by those of the others
 pub replies-append : (t p : ℕ) (xs ys : List Commit) →
     replies_of t p (xs ++ ys) ≡ replies_of t p xs ++ replies_of t (p + length xs) ys
 replies-append t p [] ys = ap (λ (n : ℕ). replies_of t n ys) (omega arith)
@@ -29,19 +29,19 @@ replies-append t p (x ∷ xs) ys =
     put true r all front back is = ap (λ (rs : List ReplyOf). r ∷ rs) is
     put false r all front back is = is
 
--- entries of other threads give none
+-- entries of other threads have no answers of this thread
 pub replies-none : (t p : ℕ) (xs : List Commit) → NoneOf t xs → replies_of t p xs ≡ []
 replies-none t p [] others = refl
 replies-none t p (x ∷ xs) others =
     let other : (x.thread == t) ≡ false = ne_eqb x.thread t (All-head (λ (c : Commit). c.thread ≢ t) x xs others) in
     rw other (replies-none t (p + 1) xs (All-tail (λ (c : Commit). c.thread ≢ t) x xs others))
 
--- an entry of the thread gives one
+-- an entry of the thread has one answer
 pub replies-one : (t p : ℕ) (e : Commit) → e.thread ≡ t → replies_of t p (e ∷ []) ≡ reply_at p e ∷ []
 replies-one t p e own =
     let is : (e.thread == t) ≡ true = eq-eqb e.thread t own in rw is refl
 
--- the positions lie in the log
+-- the positions are positions of the log
 pub replies-below : (t p : ℕ) (xs : List Commit) → AllBelow (p + length xs) (replies_of t p xs)
 replies-below t p [] = All-nil (λ (r : ReplyOf). r.position < p + 0)
 replies-below t p (x ∷ xs) =
@@ -57,7 +57,7 @@ replies-below t p (x ∷ xs) =
 
 -- ---- begins
 
--- one more, which began above the positions of all others
+-- one more answer, which began after the positions of all others
 pub begun-push : (floor : ℕ) (rs : List ReplyOf) (r : ReplyOf) → AreBegunInTurn floor rs → floor ≤ r.begun → AllBelow r.begun rs →
     r.begun ≤ r.position → AreBegunInTurn floor (rs ++ r ∷ [])
 begun-push floor [] r begun le below most = (le, most, tt)
@@ -67,7 +67,7 @@ begun-push floor (x ∷ rs) r begun le below most =
 
 -- ---- steps
 
--- those of the first entries go up from a step, and those of the others from there on
+-- the steps of the first entries rise from `k` on, and those of the others from there on
 pub steps-append : (t k p : ℕ) (xs ys : List Commit) → in_step t k xs ≡ true →
     in_step t (k + length (replies_of t p xs)) ys ≡ true →
     in_step t k (xs ++ ys) ≡ true

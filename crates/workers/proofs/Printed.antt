@@ -19,7 +19,7 @@ use Rattle.workers.proofs.Seats.{answer_from, called_within}
 abbrev AreRooms : Plan → List ℕ → Type 0
 AreRooms plan rooms = rooms ≡ map most_prints plan.program.sections.items
 
--- a section that can be called has one
+-- a section that can be called has such a room
 pub room_within : (plan : Plan) (rooms : List ℕ) (section : ℕ) (arguments : List Value) → AreRooms plan rooms →
     CanCall plan.program section arguments → section < length rooms
 room_within plan rooms section arguments are can =
@@ -29,7 +29,7 @@ room_within plan rooms section arguments are can =
 some_same : (n m : ℕ) → Some n ≡ Some m → n ≡ m
 some_same n m e = cc e
 
--- it is enough
+-- the room is enough
 pub has_room : (plan : Plan) (rooms : List ℕ) (number prints room : ℕ) → AreRooms plan rooms →
     slice_get rooms number ≡ Some prints → prints ≤ room → HasRoomFor plan number room
 has_room plan rooms number prints room are here enough section there =
@@ -38,7 +38,7 @@ has_room plan rooms number prints room are here enough section there =
     ∙ ap (option_map most_prints) there in
     omega (arith, some_same prints (most_prints section) most, enough)
 
--- for an answer
+-- the answer fits in the room
 answer_fits : (plan : Plan) (call : Invocation) (position : ℕ) (outcome : Outcome) (prints : List ℤ) (room : ℕ) →
     NoRunPrintsMore → HasRoomFor plan call.section room → IsAnswer plan call position outcome prints → length prints ≤ room
 answer_fits plan call position outcome prints room law has answer =
@@ -46,7 +46,7 @@ answer_fits plan call position outcome prints room law has answer =
     let few = law section plan.program.shape call.arguments (committed plan.layout.opening answer.log) _ whole in
     omega (arith, few, has section there)
 
--- for the entry of a call that has begun, was run to its end and entered
+-- the entry of a call that began, was run to its end and was entered fits in the room
 pub entry_fits : (plan : Plan) (floor position section room : ℕ) (arguments : List Value) (ready : ReadyOf) (b o : OpenOf) (e : Commit) →
     NoRunPrintsMore → HasRoomFor plan section room → HasBegun plan (record { section = section; arguments = arguments }) ready b → IsSame b o →
     IsItsEntry o e → IsEntered plan floor o position → length e.prints ≤ room

@@ -34,7 +34,7 @@ has_script plan count seats log order sit t below =
       steps = ap (λ n. in_step n 0 log) (sym is) ∙ here.steps;
     }
 
--- a thread's calls
+-- the calls of a thread
 pub has_calls : (plan : Plan) (t : ℕ) (thread : Thread) → slice_get plan.program.threads.items t ≡ Some thread →
     HasCalls plan t (length thread.calls.items)
 has_calls plan t thread is = record {
@@ -49,7 +49,7 @@ pub all_ran : (plan : Plan) (t n : ℕ) (calls : List Invocation) → HasCalls p
 all_ran plan t n calls has ran =
     ap Some (ran has.script has.is ∙ ap (λ (k : ℕ). take k has.script) (sym has.long) ∙ take_all (length has.script) has.script (omega arith)) ∙ sym has.is
 
--- one call of a script more has been answered
+-- one more call of a script has been answered
 pub one_more_ran : (plan : Plan) (t step : ℕ) (script : List Invocation) (call : Invocation) (hs : List ReplyOf) (h : ReplyOf) →
     script_at plan t ≡ Some script → call_at plan t step ≡ Some call → h.call ≡ call → map call_in hs ≡ take step script →
     map call_in (hs ++ h ∷ []) ≡ take (step + 1) script
@@ -61,7 +61,7 @@ one_more_ran plan t step script call hs h is has same ran =
     ∙ ap (λ (c : Invocation). take step script ++ c ∷ []) (same ∙ sym (get_or_from_slice_get script step call call at))
     ∙ sym (take_more script step call within)
 
--- ---- entries are of scripts
+-- ---- entries are entries of scripts
 
 seated_at : (P : Commit → Type 0) (log : List Commit) (p : ℕ) (c : Commit) → All P log → slice_get log p ≡ Some c → P c
 seated_at P log p c sit is = subst P (get_or_from_slice_get log p c c is) (All-get_or P log p c (slice_get_within log p c is) sit)
@@ -81,7 +81,7 @@ thread_below plan count seats c order (k, lt, is) =
     let thread : c.thread ≡ k = sym is ∙ mapped_or (λ (s : SeatOf). s.thread) seats k d c.thread below ∙ order.threads k d below in
     omega (arith, thread, below, order.long)
 
--- an entry of a thread is among the calls that its answers are to
+-- the call of a thread's entry is among the calls that its answers are to
 found_reply : (t position : ℕ) (log : List Commit) (p : ℕ) (c : Commit) → slice_get log p ≡ Some c → c.thread ≡ t →
     (k : ℕ) × (slice_get (map call_in (replies_of t position log)) k ≡ Some (call_of c))
 found_reply t position [] p c is mine = absurd cc

@@ -60,7 +60,7 @@ has_begun plan named section arguments ready p b prepared is begun = record {
 some_same : (x y : Outcome) → Some x ≡ Some y → x ≡ y
 some_same x y e = cc e
 
--- a section has one entry
+-- a section has at most one entry
 one_entry : (o : OpenOf) (e e' : Commit) → IsItsEntry o e → IsItsEntry o e' → e ≡ e'
 one_entry o e e' a b =
     a.is ∙ ap (entry_of o) (some_same e.outcome e'.outcome (sym a.over ∙ b.over)) ∙ sym b.is
@@ -130,7 +130,7 @@ seat_after plan call ready ready' told old new seat answered =
 abbrev pub shown : ℕ → List Commit → SeatOf
 shown thread log = record { thread = thread; answers = replies_of thread 0 log; seen = log }
 
--- what it gains
+-- the answer that the seat gains
 pub gains : (plan : Plan) (call : Invocation) (ready ready' : ReadyOf) (told : Done) (seat : SeatOf) (old new : List Commit) → shown ready.thread old ≡ seat →
     HasAnswer plan call ready old ready' told new → Gains seat (shown ready'.thread new) told.position call told.outcome told.prints.items
 gains plan call ready ready' told seat old new view answered =
@@ -151,7 +151,7 @@ gains plan call ready ready' told seat old new view answered =
     } in
     subst (λ (s : SeatOf). Gains s after told.position call told.outcome told.prints.items) view gained
 
--- and what it has seen
+-- the log that the seat has seen
 pub sees : (plan : Plan) (call : Invocation) (ready ready' : ReadyOf) (told : Done) (seat : SeatOf) (old new : List Commit) → shown ready.thread old ≡ seat →
     IsSeat plan ready.thread ready.step old → HasAnswer plan call ready old ready' told new → Sees plan seat (shown ready'.thread new)
 sees plan call ready ready' told seat old new view kept answered =
@@ -172,7 +172,7 @@ sees plan call ready ready' told seat old new view kept answered =
     } in
     subst (λ (s : SeatOf). Sees plan s (shown ready'.thread new)) view saw
 
--- all answers are below the position of the next
+-- all answers are before the position of the next one
 pub all_below : (plan : Plan) (call : Invocation) (ready ready' : ReadyOf) (told : Done) (seat : SeatOf) (old new : List Commit) → shown ready.thread old ≡ seat →
     HasAnswer plan call ready old ready' told new → AllBelow told.position seat.answers
 all_below plan call ready ready' told seat old new view answered =

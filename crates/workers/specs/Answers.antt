@@ -59,8 +59,8 @@ HasSeat seats thread = Contains (map (λ (s : SeatOf). s.thread) seats) thread
 abbrev pub IsSeated : List SeatOf → Commit → Type 0
 IsSeated seats c = HasSeat seats c.thread
 
--- a history of the program: it is sound, and the values are those that it leaves, one for each cell. Its calls, run whole
--- one after another, end and print as it says, and leave these values
+-- a history of the program: it is sound, and the values are those that it leaves, one for each cell. Its calls, run
+-- whole one after another, end and print as it says, and leave these values
 pub record IsHistoryOf (plan : Plan) (log : List Commit) (values : List Value) : Type 0 where
   pub sound : IsSound plan log
   pub values_are : values ≡ committed plan.layout.opening log
@@ -72,8 +72,8 @@ pub record IsHistoryOf (plan : Plan) (log : List Commit) (values : List Value) :
 abbrev pub RunsAsAccepted : Plan → List Commit → List Value → Type 0
 RunsAsAccepted plan log values = SerialFromOpening plan.accepted (map call_of log) (map answer_of log) values
 
--- a log exists, as long as the position, whose calls run so, and after which the call, run whole on the program as it was
--- accepted, ends and prints as the answer says
+-- a log exists, as long as the position, whose calls run so, and after which the call, run whole on the program as it
+-- was accepted, ends and prints as the answer says
 pub record IsAnswerAsAccepted (plan : Plan) (call : Invocation) (position : ℕ) (outcome : Outcome) (prints : List ℤ) :
     Type 0 where
   pub log : List Commit

@@ -38,7 +38,8 @@ abbrev pub reply : ℕ → ℕ → Invocation → Outcome → List ℤ → Reply
 reply position begun call outcome prints =
     record { position = position; begun = begun; call = call; outcome = outcome; prints = prints }
 
--- each call began at most at its own position, and after the position of the one before it; the first at `floor` or later
+-- each call began at most at its own position, and after the position of the one before it; the first at `floor` or
+-- later
 abbrev pub AreBegunInTurn : ℕ → List ReplyOf → Type 0
 AreBegunInTurn floor [] = ⊤
 AreBegunInTurn floor (r ∷ rs) = (floor ≤ r.begun) × (r.begun ≤ r.position) × AreBegunInTurn (r.position + 1) rs

@@ -4,12 +4,13 @@
 -- How the contracts of the crate are proved: a thread knows of the others by types. Under the Mutex is a manager whose
 -- type keeps what all need (`IsManagerOf`): it is the program's, its entries are true, each cell has a value of its
 -- type. An open section is a value of `runner::states`, whose type keeps it in order. From one hold of the Mutex to the
--- next plan, thread, step, room, call and begin are carried (`IsSame` of `runner`), and that the section's cells are part
--- of what a log leaves that was seen, as a token says (`IsPartAt`). All else is tested, never assumed: `Asking::fits`,
--- whether one of the section's locks was given back since (`LockEnds`), whether the entry began above the seat's last
--- answer, whether the log has another entry of the thread since. Where no lock was given back the cells are part of what
--- the present log leaves, so that what a section read, wrote and holds needs no test (`Ended::fits_as_part`): its end
--- costs by its locks and by what it wrote, whatever cells its locks protect (`proofs/Parts`).
+-- next plan, thread, step, room, call and begin are carried (`IsSame` of `runner`), and that the section's cells are
+-- part of what a log leaves that was seen, as a token says (`IsPartAt`). Everything else is tested, and never assumed:
+-- `Asking::fits`, whether one of the section's locks was given back since (`LockEnds`), whether the entry began above
+-- the seat's last answer, whether the log has another entry of the thread since. Where no lock was given back the cells
+-- are part of what the present log leaves, so that what a section read, wrote and holds needs no test
+-- (`Ended::fits_as_part`): its end costs by its locks and by what it wrote, whatever cells its locks protect
+-- (`proofs/Parts`).
 --
 -- The answer is drawn at the release: the log is legal by the manager's type, the entry true by the section's, and by
 -- the test it read what the log leaves. A true entry, applied to the cells that the log leaves, is the answer
@@ -19,11 +20,11 @@
 --
 -- The rule of the log is that its word is its length (`Rules`). The step that adds an entry finds the word equal to the
 -- length of what was seen, or adds nothing (`proofs/Adding`). Under the Mutex the log is the manager's history
--- (`Guarded`), sound with the entry that is added (`proofs/Guarding`); only then is the section released. For each thread
--- the log has its length with the thread's last entry (`AreEnds`), so that the thread has no entry between what its seat
--- had seen and its own, and at the end none after it. A marker `J: Naming`, whose members are the plan and the log's
--- name, names the program and the log. A value that was lent to a thread is known only by its type, so a field of it says
--- that its script's calls were answered (`ScriptSeat`).
+-- (`Guarded`), sound with the entry that is added (`proofs/Guarding`); only then is the section released. For each
+-- thread the log has its length with the thread's last entry (`AreEnds`), so that the thread has no entry between what
+-- its seat had seen and its own, and at the end none after it. A marker `J: Naming`, whose members are the plan and the
+-- log's name, names the program and the log. A value that was lent to a thread is known only by its type, so a field of
+-- it says that its script's calls were answered (`ScriptSeat`).
 pub mod Guarding
 pub mod LockEnds
 pub mod Nothing

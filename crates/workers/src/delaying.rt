@@ -15,8 +15,8 @@ const ONE_IN: u64 = 4;
 /// The limit of a delay, in turns. In each turn other threads may run.
 const MOST_TURNS: u64 = 2_048;
 
-/// Delays a thread now and then, by a busy wait. Which passes are delayed, and for how long, is drawn from the seed, the
-/// thread, the progress of its call, and the number of earlier passes.
+/// Delays a thread now and then, by a busy wait. Which passes are delayed, and for how long, is drawn from the seed,
+/// the thread, the progress of its call, and the number of earlier passes.
 ///
 /// The gate is called while no lock of the runtime is held, and every call goes on in the end. A delay only changes the
 /// order in which calls end, and nothing that is promised of them.

@@ -25,8 +25,8 @@ use source::memory::NoMemory;
 use std::alloc::Global;
 use std::marker::Model;
 
-/// The state that the Mutex guards: a manager of the program that `J` names, whose entries are true, and the log of these
-/// entries. Its value is the manager.
+/// The state that the Mutex guards: a manager of the program that `J` names, whose entries are true, and the log of
+/// these entries. Its value is the manager.
 ///
 /// Each method is one hold of the Mutex. What one hold left for the next is tested, never taken for granted.
 #[derive(Drop)]

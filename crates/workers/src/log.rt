@@ -35,8 +35,8 @@ impl<'r, J: Naming> Model for Log<'r, J> {
 impl<'r, J: Naming> Log<'r, J> {
     ghost use Rattle.std.specs.Prelude.{◌≡◌, []};
 
-    /// A log without entries at the start of a row, for the entries of the threads below `threads`. The row is unchanged.
-    /// Where the row has entries already, none can be added to this log.
+    /// A log without entries at the start of a row, for the entries of the threads below `threads`. The row is
+    /// unchanged. Where the row has entries already, none can be added to this log.
     ///
     /// # Errors
     ///

@@ -6,8 +6,8 @@ use std::hint::spin_loop;
 use std::sync::atomic::{AtomicBool, Ordering};
 use std::sync::{Arc, Wait};
 
-/// The number of times that a thread looks whether it was woken before it sleeps. To sleep and to be woken are two system
-/// calls, which take longer than most sections hold their locks.
+/// The number of times that a thread looks whether it was woken before it sleeps. To sleep and to be woken are two
+/// system calls, which take longer than most sections hold their locks.
 const LOOKS: u32 = 200;
 
 /// The place where one thread waits.

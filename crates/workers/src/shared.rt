@@ -73,10 +73,10 @@ struct Request<'a> {
 }
 
 impl<'p, 'r, J: Naming> Shared<'p, 'r, J> {
-    /// The program before any call, with the seats of the first `count` threads. The seats have no answers and have seen
-    /// nothing. The calls are entered into `row`, which `J` names. The row is unchanged, also after an error, and can be
-    /// lent again. Where several are opened over one row, only the one that enters a call first can enter any: the calls
-    /// and the `close` of the others fail with `Strange`.
+    /// The program before any call, with the seats of the first `count` threads. The seats have no answers and have
+    /// seen nothing. The calls are entered into `row`, which `J` names. The row is unchanged, also after an error, and
+    /// can be lent again. Where several are opened over one row, only the one that enters a call first can enter any:
+    /// the calls and the `close` of the others fail with `Strange`.
     ///
     /// # Errors
     ///
@@ -131,9 +131,10 @@ impl<'p, 'r, J: Naming> Shared<'p, 'r, J> {
     /// # Errors
     ///
     /// `NoMemory`; or `Strange`: the manager is not the one that the seat left, the thread has another entry that the
-    /// seat has not seen, the log has no place for the thread, or the row has entries of another [`Shared`]. The seat is
-    /// then unchanged, and nothing was entered: the thread has no entry between what the seat had seen and the entry of a
-    /// later call (`seen`), and a closed history has exactly the entries of the seat's answers (`close`: `answers`).
+    /// seat has not seen, the log has no place for the thread, or the row has entries of another [`Shared`]. The seat
+    /// is then unchanged, and nothing was entered: the thread has no entry between what the seat had seen and the entry
+    /// of a later call (`seen`), and a closed history has exactly the entries of the seat's answers (`close`:
+    /// `answers`).
     pub fn call<R: Wait, G: Gate>(
         &self,
         rt: &R,
@@ -292,9 +293,9 @@ impl<'p, 'r, J: Naming> Shared<'p, 'r, J> {
         unreachable!()
     }
 
-    // Enters the entry of a section that began when the history was at least as long as what its seat has seen, and wakes
-    // the first waiter for each of its locks. Errors: the entry doesn't fit, or another entry of the thread came between;
-    // the section has ended without an entry.
+    // Enters the entry of a section that began when the history was at least as long as what its seat has seen, and
+    // wakes the first waiter for each of its locks. Errors: the entry doesn't fit, or another entry of the thread came
+    // between; the section has ended without an entry.
     fn finish<R: Wait>(
         &self,
         rt: &R,
@@ -335,8 +336,8 @@ impl<'p, 'r, J: Naming> Shared<'p, 'r, J> {
         }
     }
 
-    /// What two seats of one log have seen are prefixes of each other; returns whether that of `one` is a prefix of that
-    /// of `other`.
+    /// What two seats of one log have seen are prefixes of each other; returns whether that of `one` is a prefix of
+    /// that of `other`.
     pub fn agree(one: &Seat<'p, 'r, J>, other: &Seat<'p, 'r, J>) -> bool
         ensures one_begins { MatchBool result (Begins one.now.seen other.now.seen)
             (Begins other.now.seen one.now.seen) }

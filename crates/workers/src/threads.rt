@@ -24,13 +24,13 @@ use std::thread;
 use std::thread::Threads;
 
 /// Runs each script of the program in a thread of its own, to its end. The gate observes the progress of each call. The
-/// history is legal and its entries are true. Each thread's entries are the calls of its script, in order and each once,
-/// begun in turn; the history has no other entries.
+/// history is legal and its entries are true. Each thread's entries are the calls of its script, in order and each
+/// once, begun in turn. The history has no other entries.
 ///
 /// # Errors
 ///
-/// A thread that is refused memory, or can't be started, stops, and the others go on; the error is then `NoMemory`. It is
-/// `Strange` where the call of a thread was, whatever else was refused: [`joined`].
+/// A thread that is refused memory, or can't be started, stops, and the others go on. The error is then `NoMemory`. It
+/// is `Strange` if a thread's call was refused as strange, whatever else was refused: [`joined`].
 pub fn run_threads<'p, R: Threads + Wait + Sync, G: Gate>(
     rt: &R,
     alloc: Global,
@@ -82,7 +82,8 @@ fn run_named<'p, 'r, J: Naming + Send + Sync, R: Threads + Wait + Sync, G: Gate>
     }
 }
 
-/// A seat, and whether its thread's script has run: if so, its answers are to exactly the calls of the script, in order.
+/// A seat, and whether its thread's script has run: if so, its answers are to exactly the calls of the script, in
+/// order.
 #[derive(Drop)]
 pub(crate) struct ScriptSeat<'p, 'r, J: Naming> {
     seat: Seat<'p, 'r, J>,

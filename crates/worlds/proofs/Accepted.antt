@@ -182,7 +182,7 @@ module _ (alloc : Global) (name : String Global) where
       none_is_some k (subst (λ x. bound_at x ≡ Some k) (sym (first_of _ point here)) bound)
   binds_nothing (suc p) k (point, here, bound) = none_is_some point here
 
-  -- nothing binds a root
+  -- no point binds a root
   no_edge : (c d : ℕ) → Edge (inc_program alloc name) c d → ⊥
   no_edge c d (number, used, bound, makes) =
       let binds = makes.binds in
@@ -312,7 +312,7 @@ module _ (alloc : Global) (name : String Global) where
     besides = record { classes = refl; structs = refl; globals = refl; heads = refl; threads = refl };
   }
 
-  -- it is a plan of a compiled program
+  -- this plan is a plan of a compiled program
   pub lost_update_is_compiled : IsCompiled (lost_update alloc name)
   lost_update_is_compiled = record {
     checked = checked (inc_program alloc name) well_formed;

@@ -10,7 +10,7 @@ module _ {M : Type 0} (load : M → ℕ → Option (Value × M)) (store : M → 
   same_machine : (m k : Machine M) → At m ≡ At k → m ≡ k
   same_machine m k e = cc e
 
-  -- what happens to a machine at its place
+  -- the next state of a machine
   abbrev goes : Machine M → Standing M
   goes k = proceed load store shape k (act load store shape (slice_get code k.place) k) (exec load store shape code zero)
 

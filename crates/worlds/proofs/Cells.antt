@@ -202,7 +202,7 @@ without_away cells (d ∷ ds) c x (inl e) h =
         | inr ne ↦ (let r = stays cells ks c x h in (r.0, set_other (without cells ks) k c None ne ∙ r.1))
       ]
 
--- a cell that is away is one of these, or was away before
+-- a cell that the world does not have is one of these, or was not there before
 pub without_none_cases : (cells : List (Option Value)) (cs : List ℕ) (c : ℕ) →
     slice_get (without cells cs) c ≡ Some None →
     Among cs c ⊎ (slice_get cells c ≡ Some None)
@@ -277,7 +277,7 @@ pub overwritten_cong : (h k : List Value) (ws : List (ℕ × Value)) (c : ℕ) �
 overwritten_cong h k [] c e = e
 overwritten_cong h k (w ∷ ws) c e = set_cong (overwritten h ws) (overwritten k ws) w.0 c w.1 (overwritten_cong h k ws c e)
 
--- a value that follows another is seen, or hidden by one of its own cell
+-- a cell with a value still has one after another value is put in front
 pub seen_before : (x : ℕ × Value) (xs : List (ℕ × Value)) (c : ℕ) (v : Value) → value_at xs c ≡ Some v →
     (w : Value) × (value_at (x ∷ xs) c ≡ Some w)
 seen_before x xs c v h = elim (cases_Bool (nat_eq x.0 c)) [

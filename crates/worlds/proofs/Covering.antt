@@ -80,7 +80,7 @@ module _ (laws : CoverLaws) (plan : Plan) (section : Section) (lists : List (Lis
     (ordered : IsOrdered plan.program section plan.ranks lists) (p : ℕ) (point : Point) (at : slice_get (points section) p ≡ Some point)
     (held : List Lock) (m : Machine HeldCells) (heap : List Value) (come : HasCome plan section lists p held m)
     (is_heap : IsHeap plan.program heap) (shows : Shows (held_value m.memory) heap) where
-  -- it sees each cell that it accesses
+  -- the section sees each cell that it accesses
   covers : ((lock : Lock) → IsListed plan.program section plan.ranks lists p m.locals lock → Contains held lock) →
       ((cell : ℕ) (lock : Lock) → lock_of_cell plan.program cell ≡ Some lock → Contains held lock → IsSeen (held_value m.memory) cell) →
       Covers plan.program.shape m.locals heap (held_value m.memory) (accesses_at point)
@@ -97,7 +97,7 @@ module _ (laws : CoverLaws) (plan : Plan) (section : Section) (lists : List (Lis
   typed_state : IsTypedState plan.program (local_types section.locals.items) (state_of m heap)
   typed_state = record { locals = come.locals; heap = is_heap }
 
-  -- where it leads
+  -- the state after the point is typed
   pub leads_typed : LeadsToTyped plan.program (local_types section.locals.items) (effect_at point plan.program.shape (state_of m heap))
   leads_typed = laws.typed plan.program ordered.here.0 p section point (state_of m heap) ordered.well_formed ordered.here.1 at typed_state
 

@@ -61,9 +61,9 @@ pub in_order : (plan : Plan) (steps : List ℕ) → EndsInOrder plan steps
 in_order plan steps u b c e p q one two before =
     ends_rise plan (opening_world plan) steps b e p q (omega (arith, before, two.later)) one two.ended
 
--- ---- what is noted of a begin
+-- ---- the begin that an entry notes
 
--- the thread's section is open, and began when the history was that long
+-- the thread's section is open, and began when the history had this length
 abbrev OpenSince : World → ℕ → ℕ → Type 0
 OpenSince w t n = (a : Activation) × HasOpen w t a × (a.begun ≡ n)
 
@@ -162,7 +162,7 @@ noted_from plan w (u ∷ us) t (suc e) p n o at ended only =
     (stays_open plan w u t n o (λ q same h. only 0 q (omega arith) (ap (λ (k : ℕ). Some k) same) (ap (λ (x : Event). Some x) h)))
     at ended (λ k q less h g. only (suc k) q (omega (arith, less)) h g)
 
--- what was noted, with how long the history was at the begin
+-- the entry at `p` notes the length of the history at the section's begin
 abbrev Entered : Plan → World → List ℕ → ℕ → ℕ → ℕ → Type 0
 Entered plan w steps t b p =
     (c : Commit) × (slice_get (world_after plan w steps).history p ≡ Some c) × (c.thread ≡ t)

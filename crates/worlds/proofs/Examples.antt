@@ -56,7 +56,7 @@ module _ (alloc : Global) (name : String Global) where
   abbrev pub none : {X : Type 0} → Vec X Global
   none = vec [] (omega arith)
 
-  -- what is left of the `Vec` of a tree besides its items: how many there are
+  -- the parts of a tree's `Vec` beside its items: the number of them
   abbrev pub one : Vec (Unit {0}) Global
   one = vec (tt ∷ []) (omega arith)
 
@@ -127,7 +127,7 @@ module _ (alloc : Global) (name : String Global) where
     };
   }
 
-  -- a thread's increment, which found a number, and began when the history had some length
+  -- a thread's increment, which found `n`, and began when the history had `begun` entries
   abbrev incremented : ℕ → ℕ → ℕ → Commit
   incremented t begun n = record {
     thread = t;
@@ -141,18 +141,18 @@ module _ (alloc : Global) (name : String Global) where
     prints = [];
   }
 
-  -- what a thread's nine steps are where nobody holds the lock
+  -- the nine steps of a thread while nobody else holds the lock
   abbrev undisturbed : ℕ → List Event
   undisturbed position = Began ∷ Moved ∷ Got (the_lock 0 0) ∷ replicate 5 Moved ++ Ended position ∷ []
 
-  -- one after the other
+  -- thread 0 runs before thread 1
   in_turn : trace lost_update (times 0 9 ++ times 1 9) ≡ undisturbed 0 ++ undisturbed 1
   in_turn = refl
 
   in_turn_history : (final lost_update (times 0 9 ++ times 1 9)).history ≡ incremented 0 0 0 ∷ incremented 1 1 1 ∷ []
   in_turn_history = refl
 
-  -- and the other way round
+  -- thread 1 runs before thread 0
   turned : trace lost_update (times 1 9 ++ times 0 9) ≡ undisturbed 0 ++ undisturbed 1
   turned = refl
 
@@ -180,7 +180,7 @@ module _ (alloc : Global) (name : String Global) where
   overlapped_cells : (final lost_update (overlapping ++ times 1 7)).cells ≡ Some (Int (pos 2)) ∷ []
   overlapped_cells = refl
 
-  -- one step less: the cell is with thread 1, and its section isn't in the history
+  -- one step fewer: thread 1 has the cell, and its section is not in the history
   cut_short : (final lost_update (overlapping ++ times 1 6)).cells ≡ None ∷ []
   cut_short = refl
 
@@ -294,7 +294,7 @@ module _ (alloc : Global) (name : String Global) where
   abbrev crossing : Plan
   crossing = transfers (transferring 0 1 5 ∷ transferring 1 0 7 ∷ []) (omega arith)
 
-  -- both ask for the lock of p[0] first, so one of them waits holding nothing
+  -- both ask for the lock of p[0] first, so that the one that waits holds nothing
   both_ask : trace crossing (times 0 3 ++ times 1 3) ≡
       Began ∷ Moved ∷ Got (the_lock 0 0) ∷ Began ∷ Moved ∷ Waits (the_lock 0 0) 0 ∷ []
   both_ask = refl
@@ -311,7 +311,7 @@ module _ (alloc : Global) (name : String Global) where
   both_end_cells : (final crossing both_end).cells ≡ Some (Int (pos 12)) ∷ Some (Int (pos 18)) ∷ []
   both_end_cells = refl
 
-  -- an account to itself: both paths name one lock, which is asked for once
+  -- a transfer from an account to itself: both paths name one lock, which is asked for once
   abbrev to_itself : Plan
   to_itself = transfers (transferring 0 0 5 ∷ []) (omega arith)
 
@@ -350,7 +350,7 @@ module _ (alloc : Global) (name : String Global) where
     lists = ((0 ∷ []) ∷ [] ∷ []) ∷ ((0 ∷ []) ∷ []) ∷ [];
   }
 
-  -- the other waits, and goes on waiting
+  -- the other thread waits, and goes on waiting
   spinning : (final endless (times 0 3 ++ times 1 3 ++ times 0 994)).history ≡ []
   spinning = refl
 
@@ -418,7 +418,7 @@ module _ (alloc : Global) (name : String Global) where
     };
   }
 
-  -- one lock, which both paths name, and with it all three cells
+  -- both paths name one lock, with which all three cells are granted
   all_at_once : trace shared_owner (times 0 4) ≡ Began ∷ Moved ∷ Got (the_lock 0 0) ∷ Moved ∷ []
   all_at_once = refl
 

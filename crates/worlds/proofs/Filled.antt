@@ -71,7 +71,7 @@ module _ (plan : Plan) (ok : IsCompiled plan) where
       let le = enough_locals mine (ok.well_formed.scopes call.section mine is) in
       many ∙ taken_many mine.parameters mine.locals.items le ∙ ap (λ (z : Section). z.parameters) (sym same) ∙ found.2.parameters
 
-  -- a call of a script fits
+  -- a call of a script has arguments that fit
   scripted : (t k : ℕ) (script : List Invocation) (call : Invocation) → slice_get (scripts plan) t ≡ Some script →
       slice_get script k ≡ Some call →
       CanCall plan.program call.section call.arguments
@@ -80,7 +80,7 @@ module _ (plan : Plan) (ok : IsCompiled plan) where
       let mine = map_back invocation thread.0.calls.items k call (ap (λ (xs : List Invocation). slice_get xs k) thread.2 ∙ has) in
       subst (λ (z : Invocation). CanCall plan.program z.section z.arguments) mine.2 (ok.well_formed.scripts t k thread.0 mine.0 thread.1 mine.1)
 
-  -- and so does each entry of a script
+  -- the entries of scripts have arguments that fit
   pub scripted_fill : (cs : List Commit) → AreOfScripts plan cs → CallsFill plan.accepted (map call_of cs)
   scripted_fill [] of = tt
   scripted_fill (c ∷ cs) of =

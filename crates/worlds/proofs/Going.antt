@@ -70,7 +70,7 @@ first_is_zero (Step r) p e = cc
 first_is_zero (Fork a b r) p e = cc
 first_is_zero (Loop a r) p e = cc
 
--- the lists of a section, where it has some
+-- the lists of a section that has some
 record HasLists (plan : Plan) (k : ℕ) : Type 0 where
   lists : List (List ℕ)
   is : slice_get plan.lists k ≡ Some lists
@@ -110,7 +110,7 @@ module _ (laws : GoingLaws) (plan : Plan) (ok : IsCompiled plan) (k : ℕ) (sect
   abbrev GoesOn : List Lock → Effect HeldCells → Type 0
   GoesOn held x = Goes load_held store_held plan.program.shape code Any (IsAtPoint plan section lists held) room x
 
-  -- each cell of a held lock is seen
+  -- the machine has each cell of a held lock
   abbrev HasCells : List Lock → Machine HeldCells → Type 0
   HasCells held m =
       (cell : ℕ) (lock : Lock) → lock_of_cell plan.program cell ≡ Some lock → Contains held lock → IsSeen (held_value m.memory) cell
@@ -186,11 +186,11 @@ module _ (laws : GoingLaws) (plan : Plan) (ok : IsCompiled plan) (k : ℕ) (sect
     one : acquire_code lists at.point.number ≡ Acquire at.point.number ∷ []
     here : slice_get code m.place ≡ Some (Acquire at.point.number)
 
-  -- a machine whose turn it is to move is in a point, or at the acquire of one
+  -- a machine that can move is within a point, or at the acquire before one
   abbrev IsMoving : List Lock → Machine HeldCells → Type 0
   IsMoving held m = IsStepping held m ⊎ IsAtAcquire held m
 
-  -- nothing is acquired
+  -- a point that acquires nothing
   nothing : (held : List Lock) (m : Machine HeldCells) (at : IsAtPoint plan section lists held m) →
       acquire_code lists at.point.number ≡ [] →
       HoldsListed at.point.number held m.locals → HasCells held m → IsMoving held m
@@ -225,7 +225,7 @@ module _ (laws : GoingLaws) (plan : Plan) (ok : IsCompiled plan) (a : Activation
   abbrev CanGo : Activation → Type 0
   CanGo b = CanGoOn plan section mine b
 
-  -- what an instruction of its code does
+  -- the effect of an instruction of the section's code
   abbrev does : List Instr → Effect HeldCells
   does instrs = act load_held store_held plan.program.shape (slice_get instrs a.machine.place) a.machine
 
@@ -293,7 +293,7 @@ module _ (laws : GoingLaws) (plan : Plan) (ok : IsCompiled plan) (a : Activation
             (sym (ap (λ i. act load_held store_held plan.program.shape i a.machine) x.here)) (acquires x)
       ])
 
-  -- it has its case, and its operands fit
+  -- the next instruction has its case, and its operands fit
   pub has_case : CanGo a → a.pending ≡ [] → a.outcome ≡ None → HasCells laws plan ok k section is a.held a.machine →
       next_effect plan a ≡ Undefined → ⊥
   has_case can p o has e =
@@ -338,7 +338,7 @@ module _ (laws : GoingLaws) (plan : Plan) (ok : IsCompiled plan) (a : Activation
         all = λ l listed. subst (λ held. Contains held l) same (f.all l listed);
       })
 
-  -- ---- asked for, and not granted
+  -- ---- a lock that is asked for and not granted
 
   pub asked_on : CanGo a → CanGo (record a { asked = true })
   asked_on (running p s) = running p s

@@ -72,7 +72,7 @@ kept_after step ready plan w (t ∷ ts) ok x =
     kept_after step ready plan (happens plan w t).1 ts ok
     (record { sound = step plan w t ok x.sound; ready = ready.step plan w t ok x.sound x.ready })
 
--- what holds of each world that is reached
+-- the claim about each world that is reached
 kept : OpeningIsSound → StepsKeepSound → WorldsStayReady → (plan : Plan) (steps : List ℕ) → IsCompiled plan →
     IsKept plan (final plan steps)
 kept opening step ready plan steps ok =

@@ -58,7 +58,7 @@ same_rank program ranks ok a b ka kb e =
     let classes : Some a.class ≡ Some b.class = sym p.1 ∙ (ap (slice_get ok.list) same ∙ q.1) in
     cc classes
 
--- of two locks that aren't the same one comes before the other
+-- of two locks that are not the same, one precedes the other
 total : (program : Typed) (ranks : List ℕ) → AreRanksOf program ranks → (a b : Lock) → Known program a →
     Known program b → same_lock a b ≡ false →
     precedes ranks a b ≡ false → Precedes ranks b a
@@ -148,7 +148,7 @@ rising_insert strict program ranks ok l (x ∷ xs) kl known rise =
         rest,
       )
 
--- ---- what is asked for
+-- ---- the requested locks
 
 record IsNumbered (program : Typed) (section : Section) (locals : List Value) (held : List Lock) (list : List ℕ) (l : Lock) : Type 0 where
   number : ℕ
@@ -190,7 +190,7 @@ known_named laws program section ranks lists ok locals i l n =
     let class = laws.classes program section used.0 n.path ok.well_formed used.1 in
     (class.0, ap (slice_get program.classes.items) (path_class n.path.root n.path.finals n.path.class program.shape locals l n.named) ∙ class.1)
 
--- one more number
+-- the locks after the lock of one more path is inserted
 new_only : (ranks : List ℕ) (held : List Lock) (x : Option Lock) (xs : List Lock) (y : Lock) →
     among (insert_new ranks held x xs) y ≡ true →
     ((x ≡ Some y) × (among held y ≡ false)) ⊎ (among xs y ≡ true)
@@ -276,7 +276,7 @@ with_none (x ∷ xs) = ap (λ rest. x ∷ rest) (with_none xs)
 
 module _ (laws : OrderLaws) (program : Typed) (section : Section) (ranks : List ℕ) (lists : List (List ℕ)) (p : ℕ) (locals : List Value)
     (ok : IsOrdered program section ranks lists) where
-  -- exactly the listed locks that aren't held, in order
+  -- exactly the listed locks that are not held, in order
   record Filling (held xs : List Lock) : Type 0 where
     order : Rising ranks xs
     only : (l : Lock) → among xs l ≡ true → IsListed program section ranks lists p locals l × (Contains held l → ⊥)

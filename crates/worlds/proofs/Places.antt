@@ -14,7 +14,7 @@ get_set_is [] i y z h = absurd cc
 get_set_is (x ∷ xs) zero y z h = cc
 get_set_is (x ∷ xs) (suc i) y z h = get_set_is xs i y z h
 
--- with one more after: what was there, or that one, in the last place
+-- the item at an index after one more item is appended
 pub get_push : {X : Type 0} (xs : List X) (x y : X) (i : ℕ) → slice_get (xs ++ x ∷ []) i ≡ Some y →
     (slice_get xs i ≡ Some y) ⊎ ((x ≡ y) × (length xs ≡ i))
 get_push [] x y zero h = inr (cc, refl)

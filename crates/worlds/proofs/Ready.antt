@@ -45,7 +45,7 @@ pub record ReadyLaws : Type 0 where
   pub heap : CommittedOfOneMore
   pub size : CommittedKeepsSize
 
--- one thread, the cells and the history change
+-- a change of one thread, the cells and the history
 ready_changed : (plan : Plan) (w : World) (t : ℕ) (thread : ThreadState) (cells : List (Option Value)) (history : List Commit) → IsReadyWorld plan w →
     IsHeap plan.program (committed plan.layout.opening history) → ((a : Activation) → thread.active ≡ Some a → IsReady plan a) →
     IsReadyWorld plan (changed w t thread cells history)
@@ -57,14 +57,14 @@ ready_changed plan w t thread cells history r heap mine = record {
   ];
 }
 
--- its section changes, and only the world's cells with it
+-- a change of the thread's section, and of the world's cells with it
 section_changed : (plan : Plan) (w : World) (t : ℕ) (thread : ThreadState) (a : Activation) (cells : List (Option Value)) → IsReadyWorld plan w →
     IsReady plan a → IsReadyWorld plan (changed w t (record { step = thread.step; active = Some a }) cells w.history)
 section_changed plan w t thread a cells r ready =
     ready_changed plan w t (record { step = thread.step; active = Some a }) cells w.history r r.heap
     (λ b e. (let same : a ≡ b = cc e in subst (IsReady plan) same ready))
 
--- each cell of a held lock is seen
+-- the section has each cell of a held lock
 pub has_cells : (plan : Plan) → IsCompiled plan → (a : Activation) → IsWell plan a → (cell : ℕ) (lock : Lock) →
     lock_of_cell plan.program cell ≡ Some lock →
     Contains a.held lock → IsSeen (held_value a.machine.memory) cell
@@ -79,7 +79,7 @@ ready_instructed plan a r (Asks point) can = record { section = r.section; is = 
 ready_instructed plan a r (Finishes outcome) can = record { section = r.section; is = r.is; fit = r.fit; goes_on = can }
 ready_instructed plan a r Undefined can = record { section = r.section; is = r.is; fit = r.fit; goes_on = can }
 
--- a finished section leaves a heap of the program so, where the heap has what it read
+-- a finished section leaves a typed heap, if the heap agrees with what it read
 pub heap_overwritten : ReadyLaws → (plan : Plan) → IsCompiled plan →
     (a : Activation) (outcome : Outcome) (heap : List Value) → IsWell plan a →
     IsReady plan a → a.outcome ≡ Some outcome → length heap ≡ length plan.program.cells.items → IsHeap plan.program heap →
@@ -154,7 +154,7 @@ opening_ready plan ok = record {
   sections = λ t a o. absurd (none_open (scripts plan) t o.0 a o.1 o.2);
 }
 
--- ---- what it says
+-- ---- the consequences
 
 pub rises_in : (plan : Plan) (a : Activation) (section : Section) (lists : List (List ℕ)) →
     CanGoOn plan section lists a → (lock other : Lock) (rest : List Lock) →

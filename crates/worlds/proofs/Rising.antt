@@ -49,7 +49,7 @@ rising_has_no_cycle none ranks w rise = none ranks (map asker w.threads) asks_ri
       rises_at ranks w rise t thread.0 lock other thread.0.active thread.1 refl
       (ap (λ (y : Asker). y.ask) thread.2 ∙ ask) (subst (λ (y : Asker). Contains y.held other) (sym thread.2) held)
 
--- ---- someone goes on
+-- ---- some thread goes on
 
 precedes_or_not : (ranks : List ℕ) (a b : Lock) → Precedes ranks a b ⊎ (Precedes ranks a b → ⊥)
 precedes_or_not ranks a b = elim (cases_lt (slice_index ranks a.class) (slice_index ranks b.class)) [
@@ -75,7 +75,7 @@ first_of (lock ∷ rest) = Some lock
 abbrev wanted : ThreadState → Option Lock
 wanted thread = option_map_or (λ (a : Activation). first_of a.pending) thread.active None
 
--- a thread wants a lock that comes before none that another wants
+-- a thread wants a lock that precedes no lock that another thread wants
 record IsTop (ranks : List ℕ) (threads : List ThreadState) : Type 0 where
   by : ℕ
   thread : ThreadState
@@ -91,7 +91,7 @@ WantNothing threads = (t : ℕ) (thread : ThreadState) → slice_get threads t �
 top_of : PrecedesIsStrict → (ranks : List ℕ) (threads : List ThreadState) → WantNothing threads ⊎ IsTop ranks threads
 top_of strict ranks [] = inl (λ t thread at. absurd cc)
 top_of strict ranks (x ∷ xs) = with_first (wanted x) refl (top_of strict ranks xs) where
-  -- nothing is wanted further on: the first one decides
+  -- if no later thread wants a lock, the first thread decides
   alone_top : (l : Lock) → wanted x ≡ Some l → WantNothing xs → (u : ℕ) (other : ThreadState) (m : Lock) →
       slice_get (x ∷ xs) u ≡ Some other →
       wanted other ≡ Some m → Precedes ranks l m → ⊥
@@ -139,7 +139,7 @@ top_of strict ranks (x ∷ xs) = with_first (wanted x) refl (top_of strict ranks
     | inr not ↦ inr (later (Some l) e r (λ k same p. not (let as_one : l ≡ k = cc same in subst (Precedes ranks r.lock) (sym as_one) p)))
   ]
 
--- what the step of an open section is
+-- the result of a step of an open section
 happens_open : (plan : Plan) (w : World) (t : ℕ) (thread : ThreadState) (a : Activation) →
     slice_get w.threads t ≡ Some thread → thread.active ≡ Some a →
     happens plan w t ≡ goes_on plan w t thread a a.pending a.outcome
@@ -207,13 +207,13 @@ wants_of thread lock None e h = absurd cc
 wants_of thread lock (Some a) e h =
     let p = pending_of a lock a.pending refl h in record { section = a; is_open = e; rest = p.0; pending = p.1 }
 
--- by the locks that a section is to be granted
+-- the cases of the locks that a section is to be granted
 by_pending : (a : Activation) (locks : List Lock) → a.pending ≡ locks →
     (a.pending ≡ []) ⊎ ((lock : Lock) × (rest : List Lock) × (a.pending ≡ lock ∷ rest))
 by_pending a [] e = inl e
 by_pending a (lock ∷ rest) e = inr (lock, rest, e)
 
--- of a lock that comes before none that is wanted: nobody holds it, or its holder wants none
+-- the lock that precedes no wanted one has no holder, or its holder wants none
 at_top : (plan : Plan) (w : World) → PendingRises plan.ranks w → (r : IsTop plan.ranks w.threads) →
     Wants r.thread r.lock → (x : Option ℕ) →
     holder w r.lock ≡ x → Goer plan w
@@ -245,9 +245,9 @@ rising_goes_on strict plan w rise t a o = elim (top_of strict plan.ranks w.threa
   | inr r ↦ at_top plan w rise r (wants_of r.thread r.lock r.thread.active refl r.wants) (holder w r.lock) refl
 ]
 
--- ---- who waits
+-- ---- the threads that wait
 
--- the thread of a holder, of whom the first of the threads has this number
+-- the thread of a lock's holder, in a list whose first thread has the number `n`
 record HolderAt (n : ℕ) (threads : List ThreadState) (lock : Lock) (h : ℕ) : Type 0 where
   by : ℕ
   is : h ≡ n + by

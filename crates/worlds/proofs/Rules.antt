@@ -23,7 +23,7 @@ use Rattle.layout.specs.Theory.Numbers.{distinct_push}
 use Rattle.worlds.proofs.Ends.{others_stay}
 use Rattle.worlds.proofs.Scripts.{at_first_is}
 
--- ---- none is held twice
+-- ---- no lock is held twice
 
 -- no open section holds a lock twice
 pub Once : World → Type 0
@@ -34,7 +34,7 @@ contains_at [] i lock h = absurd cc
 contains_at (l ∷ ls) zero lock h = let e : l ≡ lock = cc in (0, omega arith, e)
 contains_at (l ∷ ls) (suc i) lock h = let c = contains_at ls i lock h in let less = c.1 in (suc c.0, omega (arith, less), c.2)
 
--- the section that a thread was given
+-- the new section of a thread
 own_is : (threads : List ThreadState) (w : World) (t k : ℕ) (a b : Activation) →
     w.threads ≡ slice_set threads t (record { step = k; active = Some a }) → HasOpen w t b → a ≡ b
 own_is threads w t k a b now o =

@@ -20,7 +20,7 @@ IsOpen w t = (a : Activation) × HasOpen w t a
 
 -- ---- one step
 
--- a section that is open after a step of its thread was open before it, or begins with it
+-- a section that is open after a step of its thread was open before it, or begins with the step
 open_before : (plan : Plan) (w : World) (t : ℕ) (e : Event) (after : World) → Turn plan w t e after → IsOpen after t →
     (e ≡ Began) ⊎ (IsOpen w t × ((p : ℕ) → e ≡ Ended p → ⊥))
 open_before plan w t e after idles o = inr (o, λ p h. absurd cc)
@@ -32,7 +32,7 @@ open_before plan w t e after (over {thread} at none out) o =
     absurd (let bad : None ≡ Some o.0 = ap (λ x. x.active) now ∙ o.1.2 in cc bad)
 open_before plan w t e after (moves {thread} {a} at none out) o = inr ((a, (thread, at.at, at.is)), λ p h. absurd cc)
 
--- the same of a step of any thread
+-- the same for a step of any thread
 open_before_any : (plan : Plan) (w : World) (u t : ℕ) → IsOpen (happens plan w u).1 t →
     ((u ≡ t) × ((happens plan w u).0 ≡ Began))
     ⊎ (IsOpen w t × ((p : ℕ) → u ≡ t → (happens plan w u).0 ≡ Ended p → ⊥))
@@ -74,12 +74,12 @@ entry_before plan w t e after (moves at none out) p c h = inl h
 
 -- ---- runs
 
--- no step of the thread after the one and before the other ends a section
+-- no step of the thread between steps `b` and `e` ends a section
 abbrev NoneEndsBetween : Plan → World → List ℕ → ℕ → ℕ → ℕ → Type 0
 NoneEndsBetween plan w steps t b e =
     (k q : ℕ) → b < k → k < e → slice_get steps k ≡ Some t → slice_get (events plan w steps) k ≡ Some (Ended q) → ⊥
 
--- nor one before it
+-- no step of the thread before step `e` ends a section
 abbrev NoneEnds : Plan → World → List ℕ → ℕ → ℕ → Type 0
 NoneEnds plan w steps t e =
     (k q : ℕ) → k < e → slice_get steps k ≡ Some t → slice_get (events plan w steps) k ≡ Some (Ended q) → ⊥

@@ -46,7 +46,7 @@ take_numbered t s (suc k) (x ∷ xs) call h =
     ap (λ (m : ℕ). take m (numbered t s (x ∷ xs))) one ∙ ap (λ ys. record { thread = t; step = s; call = x } ∷ ys) (take_numbered t (s + 1) k xs call h
     ∙ ap (λ (m : ℕ). take k (numbered t (s + 1) xs) ++ record { thread = t; step = m; call = call } ∷ []) n)
 
--- the call of a script that stands there
+-- the call of a script at an index
 call_is : (plan : Plan) (t k : ℕ) (call : Invocation) (x : Option (List Invocation)) → slice_get (scripts plan) t ≡ x →
     call_at plan t k ≡ Some call → (script : List Invocation) → x ≡ Some script → slice_get script k ≡ Some call
 call_is plan t k call x e h script is =
@@ -58,7 +58,7 @@ call_is plan t k call x e h script is =
 
 -- ---- steps
 
--- a thread's section changes, and is the next call
+-- the thread's section changes, and is still its next call
 same_step : (plan : Plan) (w : World) (t : ℕ) (thread : ThreadState) (a : Activation) →
     slice_get w.threads t ≡ Some thread → FollowsScripts plan w →
     call_at plan t thread.step ≡ Some a.call → (after : World) → after.history ≡ w.history →

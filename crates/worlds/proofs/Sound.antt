@@ -13,7 +13,7 @@ use Rattle.worlds.specs.Working.States.{IsWell, IsFit, IsSound}
 use Rattle.worlds.specs.Claims.{HoldsCell}
 use Rattle.worlds.proofs.Places.{get_set_same, get_set_is}
 
--- another thread than t holds the cell
+-- a thread other than `t` holds the cell
 pub record ElsewhereHeld (w : World) (t cell : ℕ) : Type 0 where
   pub by : ℕ
   pub section : Activation
@@ -21,13 +21,13 @@ pub record ElsewhereHeld (w : World) (t cell : ℕ) : Type 0 where
   pub other : t ≡ by → ⊥
   pub holds : HoldsCell section cell
 
--- this thread holds it
+-- this thread holds the cell
 pub record HoldsHere (thread : ThreadState) (cell : ℕ) : Type 0 where
   pub section : Activation
   pub is_open : thread.active ≡ Some section
   pub holds : HoldsCell section cell
 
--- one thread, the cells and the history change, and all that is true of the world stays so
+-- a change of one thread, the cells and the history that keeps all invariants of the world
 pub record Changes (plan : Plan) (w : World) (t : ℕ) (thread : ThreadState) (cells : List (Option Value)) (history : List Commit) : Type 0 where
   pub before : ThreadState
   pub at : slice_get w.threads t ≡ Some before
@@ -47,7 +47,7 @@ pub record Changes (plan : Plan) (w : World) (t : ℕ) (thread : ThreadState) (c
 abbrev pub changed : World → ℕ → ThreadState → List (Option Value) → List Commit → World
 changed w t thread cells history = record { cells = cells; history = history; threads = set w.threads t thread }
 
--- the section that the thread has open then, and that another thread had open before
+-- the section that is open after the change, and the section of another thread that was open before
 pub now_open : (w : World) (t : ℕ) (thread : ThreadState) (cells : List (Option Value)) (history : List Commit) (u : ℕ) (b : Activation) → t ≡ u →
     HasOpen (changed w t thread cells history) u b → thread.active ≡ Some b
 now_open w t thread cells history u b e o =

@@ -34,7 +34,7 @@ use Rattle.worlds.proofs.Sound.{ElsewhereHeld, changed, sound_changed}
 use Rattle.worlds.proofs.Well.{Laws, cells_are, well_instructed, Alike, alike_instructed, well_asked, well_begun}
 use Rattle.worlds.proofs.Well.{unwritten_of, well_granted, fit_granted, true_commit}
 
--- ---- what a program's script calls
+-- ---- the calls of a script
 
 pub can_call : (program : Typed) (k : ℕ) (arguments : List Value) → CanCall program k arguments →
     (section : Section) × (slice_get program.sections.items k ≡ Some section) × Fit program section arguments
@@ -58,7 +58,7 @@ section_of_call plan well t step call h = elim (some_or_none (slice_get (scripts
   | inr n ↦ absurd (let bad : None ≡ Some call = sym (ap (λ x. option_map_or (λ (calls : List Invocation). slice_get calls step) x None) n) ∙ h in cc bad)
 ]
 
--- ---- who holds a lock
+-- ---- the holder of a lock
 
 nobody : (n : ℕ) (threads : List ThreadState) (lock : Lock) → holder_from n threads lock ≡ None →
     (t : ℕ) (thread : ThreadState) (a : Activation) →
@@ -76,9 +76,9 @@ nobody n (x ∷ xs) lock e t thread a at is held =
           true≢false (sym h ∙ e)
       first false e none (suc t) at go = go t none at
 
--- ---- words of the proofs
+-- ---- abbreviations
 
--- of what holds a cell: another thread, or this thread's section
+-- a cell is held by another thread, or by this thread's section
 held_cases : (plan : Plan) (w : World) (t : ℕ) (thread : ThreadState) (a : Activation) → IsSound plan w →
     Active w t thread a → (c : ℕ) →
     slice_get w.cells c ≡ Some None → ElsewhereHeld w t c ⊎ HoldsCell a c
@@ -92,7 +92,7 @@ held_cases plan w t thread a s at c none =
 
 -- ---- the steps
 
--- a thread's section changes, but not what it holds
+-- the thread's section changes, but not the cells that it holds
 keeps_cells : (plan : Plan) (w : World) (t : ℕ) (thread : ThreadState) (a b : Activation) → IsSound plan w →
     Active w t thread a → IsWell plan b →
     Alike (committed plan.layout.opening w.history) a b →
@@ -152,7 +152,7 @@ sound_starts plan w t thread call ok s at none called =
       ]);
     })
 
--- the cells of a lock that nobody holds are there
+-- the cells of a lock that nobody holds are in the world
 free_cells : (plan : Plan) → IsCompiled plan → (w : World) → IsSound plan w → (lock : Lock) → holder w lock ≡ None →
     (c : ℕ) →
     slice_get plan.layout.cell_locks c ≡ Some lock → (v : Value) × (slice_get w.cells c ≡ Some (Some v))

@@ -33,13 +33,13 @@ without_one [] i n h = absurd (none-some n h)
 without_one (x ∷ ns) zero n h = let same : x ≡ n = cc h in omega (arith, same)
 without_one (x ∷ ns) (suc i) n h = let rest = without_one ns i n h in omega (arith, rest)
 
--- ---- none twice
+-- ---- no lock is named twice
 
 distinct_rest : {X : Type 0} (x : X) (xs : List X) → AllPairs ◌≢◌ (x ∷ xs) → AllPairs ◌≢◌ xs
 distinct_rest x xs d i j z lt b = d (suc i) (suc j) z (omega (arith, lt)) (omega (arith, b))
 
--- each item has a number of its own, whose entry is at least the item's weight. Hence the sum of the weights is at most
--- that of the entries
+-- each item has a number of its own, whose entry is at least the item's weight, so that the sum of the weights is at
+-- most that of the entries
 module _ {X : Type 0} (weight : X → ℕ) (HasNumber : ℕ → X → Type 0) (one : (i : ℕ) (x y : X) → HasNumber i x → HasNumber i y → x ≡ y) where
   pub record HasPlace (ns : List ℕ) (x : X) : Type 0 where
     pub number : ℕ

@@ -9,12 +9,12 @@ use Rattle.worlds.specs.declared.event.Event.TheVariants.{Idle, Began, Got, Wait
 use Rattle.worlds.specs.Worlds.{World, ThreadState, Activation, HasOpen, activation, with_active, holder, asks, ends}
 use Rattle.worlds.specs.Worlds.{instructed, next_effect, begins, goes_on, steps_with, thread_steps, happens, call_at}
 
--- the thread has this section open
+-- the thread has this open section
 pub record Active (w : World) (t : ℕ) (thread : ThreadState) (a : Activation) : Type 0 where
   pub at : slice_get w.threads t ≡ Some thread
   pub is : thread.active ≡ Some a
 
--- it is the one section that the thread has open
+-- a thread has at most one open section
 pub same_open : (w : World) (t : ℕ) (thread : ThreadState) (a b : Activation) → Active w t thread a → HasOpen w t b → a ≡ b
 same_open w t thread a b at o =
     let same : thread ≡ o.0 = (let e : Some thread ≡ Some o.0 = sym at.at ∙ o.1 in cc e) in

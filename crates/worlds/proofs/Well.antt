@@ -35,7 +35,7 @@ use Rattle.worlds.proofs.Cells.{among_more, among_last, among_push, value_cases,
 use Rattle.worlds.proofs.Cells.{without_away}
 use Rattle.worlds.specs.Worlds.{without}
 
--- the laws that this stands on
+-- the laws on which this stands
 pub record Laws : Type 0 where
   pub keeps : KeepsHeld
   pub moves : MovesAlike
@@ -58,7 +58,7 @@ cells_are plan ok = ok.laid_out.cells ∙ sym (opening_size plan ok)
 key_of : ℕ × Value → ℕ
 key_of x = x.0
 
--- of lists with the same cells each has a value where the other has
+-- two lists with the same cells have values for the same cells
 same_keys : (xs ys : List (ℕ × Value)) → map (λ (x : ℕ × Value). x.0) ys ≡ map (λ (x : ℕ × Value). x.0) xs →
     (c : ℕ) (v : Value) →
     value_at ys c ≡ Some v → (u : Value) × (value_at xs c ≡ Some u)
@@ -94,7 +94,7 @@ there : (plan : Plan) (a : Activation) (w : IsWell plan a) (heap : List Value) �
     alone plan.program.shape (code_at plan a.call.section) w.count (locals_at plan a.call) heap ≡ At (on_heap heap a.machine)
 there plan a w heap none n agree = w.truth heap n agree ∙ ap (λ x. standing x (on_heap heap a.machine)) none
 
--- one instruction more, by what it does
+-- one more instruction, by its effect
 further : (plan : Plan) (a : Activation) (w : IsWell plan a) (heap : List Value) → a.outcome ≡ None →
     length heap ≡ length plan.layout.opening →
     Agrees heap a.machine.memory.reads → (x : Effect (List Value)) →

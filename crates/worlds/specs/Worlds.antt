@@ -163,7 +163,7 @@ granted a lock rest values =
     }
 
 -- a step of a section with a pending lock: if no thread holds the lock, it is granted, and its cells move to the
--- section; else it is only asked for
+-- section; otherwise it is only asked for
 abbrev pub asks : Plan → World → ℕ → ThreadState → Activation → Lock → List Lock → Option ℕ → Event × World
 asks plan w t thread a lock rest None =
     let cells = cells_of plan.layout.cell_locks lock in

@@ -7,7 +7,7 @@ use Rattle.driver_words.specs.Lines.{IsPrefix}
 use Rattle.autolock_c.specs.declared.answer.Answer.{Answer}
 use Rattle.autolock_c.specs.Given.{laid_over}
 
--- an answer of this kind, of which one text stands behind the other, and not that memory ran out
+-- an answer of this kind: `text` is what was written, followed by what was reported; memory did not run out
 pub record IsAnswer (Answers : Status → List ℕ → List ℕ → Type 0) (answer : Answer) : Type 0 where
   pub wrote : List ℕ
   pub said : List ℕ
@@ -21,7 +21,7 @@ IsHandedOut (Ok answer) old new needed code =
     (code ≡ exit_status answer.status) × (needed ≡ length answer.text.items) × (new ≡ laid_over answer.text.items old)
 IsHandedOut (Err status) old new needed code = (code ≡ exit_status status) × (needed ≡ 0) × (new ≡ old)
 
--- why nothing is emitted: the prefix is none; or it is one, and memory ran out
+-- the reason why nothing is emitted: the prefix is not a prefix, or it is one and memory ran out
 abbrev pub IsUnemitted : List ℕ → Status → Type 0
 IsUnemitted prefix status =
     ((status ≡ BadWords) × (IsPrefix prefix → ⊥)) ⊎ ((status ≡ OutOfMemory) × IsPrefix prefix)

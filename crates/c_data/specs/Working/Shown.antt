@@ -14,7 +14,7 @@ use Rattle.locks.specs.Texts.{struct_name}
 use Rattle.c_data.specs.declared.writer.DataWriter.{DataWriter}
 use Rattle.c_data.specs.Cells as text
 
--- a value's text is what stands ahead of its place, the place, and what stands behind it
+-- the line that writes a value: the text before the value's place, the place, and the text after it
 abbrev pub before_of : DataWriter → ValueType → List ℕ
 before_of x Integer = codes "    fprintf(f, \"%\" PRId64 \"\\n\", "
 before_of x (Reference s) =

@@ -42,12 +42,12 @@ use Rattle.replay.specs.declared.verdict.Judgement.{Judgement}
 abbrev pub Meets : (Status → List ℕ → List ℕ → Type 0) → Answer → Type 0
 Meets Wanted answer = Wanted answer.status (rope_text answer.out) (string_bytes answer.err)
 
--- nothing is written, and this message is told
+-- an answer that writes nothing and reports this message
 abbrev pub IsMessage : Status → List ℕ → Answer → Type 0
 IsMessage status message answer =
     (answer.status ≡ status) × (rope_text answer.out ≡ []) × (string_bytes answer.err ≡ message)
 
--- what explains a fault, and what tells of a program without one, of values of the code
+-- what `explain` writes of a fault, by the values of the code
 abbrev pub fault_told_of : Bool → Color → Explanation → List ℕ
 fault_told_of json color x =
     fault_told json color x.file.now x.text.now x.fault.now (map note_of x.notes.now) (further_of x.further.now)
@@ -56,27 +56,27 @@ abbrev pub acceptance_told_of : Bool → Color → Acceptance → List ℕ
 acceptance_told_of json color x =
     acceptance_told json color x.file.now x.text.now (map note_of x.notes.now) (map warning_of x.warnings.now)
 
--- to a fault that is explained
+-- the answer of `explain` for a text with a fault
 abbrev pub IsExplainedAnswer : Bool → Color → Explanation → Answer → Type 0
 IsExplainedAnswer json color explanation answer =
     (answer.status ≡ Refused) × (rope_text answer.out ≡ fault_told_of json color explanation) × (string_bytes answer.err ≡ [])
 
--- to a program without one
+-- the answer of `explain` for an accepted text
 abbrev pub IsAcceptedAnswer : Bool → Color → Acceptance → Answer → Type 0
 IsAcceptedAnswer json color acceptance answer =
     (answer.status ≡ Done) × (rope_text answer.out ≡ acceptance_told_of json color acceptance) × (string_bytes answer.err ≡ [])
 
--- to a judgement on these lines
+-- the answer of `replay` for a judgement on these lines
 abbrev pub IsJudgementAnswer : Bool → Judgement → List (List ℕ) → Answer → Type 0
 IsJudgementAnswer why judgement lines answer =
     (answer.status ≡ verdict_status judgement.verdict)
     × (rope_text answer.out ≡ judgement_text why judgement.verdict judgement.wanted lines) × (string_bytes answer.err ≡ [])
 
--- what is expected, of values of the code
+-- the expectation that a value of the code stands for
 abbrev pub expected_of : exploring.Expected → Expected
 expected_of e = record { text = e.text.now; said = said_of e.expectation; comparison = e.comparison }
 
--- to ends of all orders, or of some that were drawn, with what is expected of them
+-- the answer of `outcomes` for these ends, with the expectation of them
 abbrev pub IsToldAnswer : Typed → Asked → Bool → Scope → List Told → Option Expected → Answer → Type 0
 IsToldAnswer program asked full scope ends expected answer =
     (answer.status ≡ ended_by (breach_of expected asked ends))

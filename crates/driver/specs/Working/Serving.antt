@@ -9,12 +9,12 @@ use Rattle.driver.specs.declared.streams.Streams.{Streams}
 use Rattle.driver.specs.Messages.{cannot_read, cannot_write, no_memory}
 use Rattle.driver.specs.Streams.{writing_failed, Writes, Tells}
 
--- a file was not read: reading it failed, or memory ran out; and that is told
+-- a file was not read and the message says why: reading it failed, or memory ran out
 pub data IsUnread (file : List ℕ) (failed : Bool) (Told : List ℕ → Type 0) (status : Status) : Type 0 where
   of_reader : status ≡ Failed → failed ≡ true → Told (cannot_read file) → IsUnread file failed Told status
   of_memory : status ≡ OutOfMemory → failed ≡ false → Told no_memory → IsUnread file failed Told status
 
--- an answer went out, all of it; or the writer failed, and that is told
+-- the whole answer was written; or the writer failed, and the message says this
 abbrev pub IsOut : {O E : Type 0} → (O → Option (List ℕ)) → (E → Option (List ℕ)) → Answer → Streams O E → Streams O E →
     Status → Bool → Type 0
 IsOut contents told answer old new status true = (status ≡ Failed) × Tells told old.err new.err cannot_write

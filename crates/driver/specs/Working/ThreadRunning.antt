@@ -15,7 +15,7 @@ run_in ran = record { log = ran.closed.history; values = ran.values.items }
 abbrev pub is_run : Plan → Ran → Type 0
 is_run plan ran = IsRunOf plan (run_in ran)
 
--- so many runs were seen
+-- the given number of runs was seen
 pub record HasSeenRuns (plan : Plan) (count : ℕ) (seen : Seen) : Type 0 where
   pub runs : List Run
   pub as_many : length runs ≡ count

@@ -41,6 +41,6 @@ limit_of Cells = CELL_LIMIT
 
 -- ---- of threads
 
--- with the declaration at a place there are first too many calls
+-- the sum of the calls first exceeds the limit with the declaration `i`
 abbrev pub ends_few : List Decl → ℕ → Bool
 ends_few decls i = if few_calls (take (i + 1) decls) then false else few_calls (take i decls)

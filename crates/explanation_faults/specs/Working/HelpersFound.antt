@@ -12,7 +12,7 @@ use Rattle.syntax.specs.Trees.{Decl}
 abbrev pub all_helpers : List Decl → List Body
 all_helpers decls = helper_bodies decls decls
 
--- one of the helpers is declared there, reaches no recursion, and is too deep
+-- a helper that is declared at the byte reaches no recursion, and is too deep
 pub record IsDeepThere (helpers : List Body) (at : ℕ) : Type 0 where
   pub number : ℕ
   pub body : Body
@@ -21,7 +21,7 @@ pub record IsDeepThere (helpers : List Body) (at : ℕ) : Type 0 where
   pub ends : is_endless helpers number ≡ false
   pub deep : DEPTH_LIMIT < depth helpers number
 
--- the first of the faults that are listed: of those that go before a recursion there
+-- of the graph's faults and a recursion at the byte, the first is a limit exceeded at this byte
 abbrev pub IsFirstThere : List Decl → ℕ → Type 0
 IsFirstThere decls at =
     least_of (Some (record { code = RecursiveHelper; start = at })) (graph_faults (tree_graph decls)) ≡ Some (record { code = LimitExceeded; start = at })

@@ -1,4 +1,5 @@
--- The limit that the code finds, of those that are passed: the first, in the order of its tests. Nobody has to believe this file.
+-- The limit that the code finds, of those that are passed: the first, in the order of its tests. Nobody has to believe
+-- this file.
 use Rattle.std.specs.List.{filter_map, flat_map}
 use Rattle.std.specs.Option.{option_or}
 use Rattle.std.specs.Prelude.{ℕ, ◌==◌, ◌||◌, Bool, false, if◌then◌else◌, List, [], ◌∷◌, drop, map, Option, Some, None}
@@ -15,15 +16,15 @@ abbrev pub some_starts : ℕ → List Ident → Bool
 some_starts at [] = false
 some_starts at (x ∷ xs) = (x.span.start == at) || some_starts at xs
 
--- behind the first so many names one starts there
+-- one of the names after the first `limit` ones starts at the byte `at`
 abbrev pub is_past : ℕ → ℕ → List Ident → Bool
 is_past at limit names = some_starts at (drop limit names)
 
--- what is said, if it is so
+-- the words, if the test succeeds
 abbrev pub said_if : Bool → List ℕ → Option (List ℕ)
 said_if b words = if b then Some words else None
 
--- of the program
+-- the limit of the program that is exceeded at the byte
 abbrev pub limit_of_all : ℕ → List Decl → Option (List ℕ)
 limit_of_all at decls =
     option_or (said_if (is_past at STRUCT_LIMIT (filter_map struct_name decls)) (codes "a program has at most 64 structs"))
@@ -31,7 +32,7 @@ limit_of_all at decls =
     (option_or (said_if (is_past at THREAD_LIMIT (filter_map thread_name decls)) (codes "a program has at most 64 threads"))
     (said_if (is_past at CLASS_LIMIT (flat_map lock_names decls)) (codes "a program has at most 128 lock classes"))))
 
--- of names inside a declaration
+-- the limit of names inside a declaration that is exceeded at the byte
 abbrev pub limit_in : ℕ → Decl → Option (List ℕ)
 limit_in at (struct s) = said_if (is_past at MEMBER_LIMIT (map member_name s.members)) (codes "a struct has at most 32 members")
 limit_in at (atomic s) =

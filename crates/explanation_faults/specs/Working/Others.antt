@@ -6,11 +6,11 @@ use Rattle.resolution.specs.Working.Findings.{mistake_of}
 use Rattle.source.specs.declared.mistake.Mistake.{Mistake}
 use Rattle.source.specs.Mistakes.{goes_before}
 
--- they differ in code or place
+-- the two faults differ in code or place
 abbrev pub differ : Mistake → Mistake → Bool
 differ a b = goes_before a b || goes_before b a
 
--- those behind the first, if that is this fault
+-- the further faults: those after the first one, if `fault` is the first one, and otherwise none
 abbrev pub others_of : Mistake → Bool → List Finding → Further
 others_of fault more [] = nothing_further
 others_of fault more (f ∷ fs) = if differ (mistake_of f) fault then nothing_further else record { faults = map mistake_of fs; more = more }

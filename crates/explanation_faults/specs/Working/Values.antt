@@ -56,39 +56,39 @@ abbrev pub FoundReason : List Decl → Code → ℕ → Option Why → Type 0
 FoundReason decls code at (Some w) = IsFaultFor decls code at w
 FoundReason decls code at None = IsFirstFault decls code at → ⊥
 
--- of a code that doesn't say all
+-- the reason of a fault, for the codes that have one
 abbrev pub FoundWhy : List Decl → Code → ℕ → Option Why → Type 0
 FoundWhy decls WrongType at w = FoundReason decls WrongType at w
 FoundWhy decls WrongArgumentCount at w = FoundReason decls WrongArgumentCount at w
 FoundWhy decls NotAssignable at w = FoundReason decls NotAssignable at w
 FoundWhy decls code at w = Unit {0}
 
--- the same of the first faults of any program
+-- the same for the first faults of each program
 abbrev pub IsReasonBy : (List Decl → Code → ℕ → Option Why → Type 0) → Firsts → Fault → Option Why → Type 0
 IsReasonBy Found firsts fault w = (decls : List Decl) → firsts ≡ the_firsts decls → Found decls fault.code fault.start w
 
--- of a fault that is known with its reason
+-- the reason that is kept with a fault is right
 abbrev pub IsKnownOf : List Decl → Known → Type 0
 IsKnownOf decls x = FoundWhy decls x.fault.now.code x.fault.now.start x.why
 
 abbrev pub AreNotesOn : List Tok → List Decl → Known → List Note → Type 0
 AreNotesOn tokens decls x notes = AreNotes tokens decls x.fault.now.code x.fault.now.start notes
 
--- a true note, or none, where none must be
+-- a true note, or none if a note is not required
 abbrev pub IsNoteIfTold : Faulty → Code → Option written_note.Note → Type 0
 IsNoteIfTold x code (Some note) = IsTrueNote (tokens_of x) (decls_of x) code x.at (note_of note)
 IsNoteIfTold x code None = IsTold (tokens_of x) (decls_of x) code x.at → ⊥
 
--- the same of why a fault of this code is one
+-- the same for the reason of a fault of this code
 abbrev pub IsReasonIfTold : Faulty → Code → Option written_note.Note → Type 0
 IsReasonIfTold x code (Some note) = IsReasonNote (decls_of x) code x.at (note_of note)
 IsReasonIfTold x code None = IsFirstFault (decls_of x) code x.at → ⊥
 
--- no `return` is missing there
+-- no `return` is missing at the byte
 abbrev pub LacksNone : List Decl → ℕ → Type 0
 LacksNone decls at = (x : Ident) → IsLacking decls at x → ⊥
 
--- all that is told of a `return`, whatever the tokens are
+-- the notes on a misplaced `return`, which do not depend on the tokens
 abbrev pub AreReturnNotes : List Decl → ℕ → List Note → Type 0
 AreReturnNotes decls at notes = (tokens : List Tok) → AreNotes tokens decls MisplacedReturn at notes
 
@@ -96,21 +96,21 @@ abbrev pub FoundInit : (Init → Type 0) → Option (Bor written_init.Init) → 
 FoundInit Is (Some i) = Is (init_of i.now)
 FoundInit Is None = (i : Init) → Is i → ⊥
 
--- the text has this fault and no other, and no tokens
+-- the text has this fault and no other, and does not have tokens
 abbrev pub IsItsFault : List ℕ → Fault → Type 0
 IsItsFault text fault =
     IsFault text fault.code fault.start
     × ((code : Code) (start : ℕ) → IsFault text code start → (code ≡ fault.code) × (start ≡ fault.start))
     × ((ts : List Tok) → length text ≤ SOURCE_LIMIT → HasTokens text ts → ⊥)
 
--- the words that are said of the text's own limit that a fault passes, if it does
+-- the words on the text's own limit that the fault exceeds, if it exceeds one
 abbrev pub FoundTextLimit : List ℕ → Fault → Option (Bor (List ℕ)) → Type 0
 FoundTextLimit text fault (Some words) = (fault.code ≡ LimitExceeded) × IsTextLimit text fault.start words.now
 FoundTextLimit text fault None = (words : List ℕ) → fault.code ≡ LimitExceeded → IsTextLimit text fault.start words → ⊥
 
 -- ---- limits
 
--- the words that are said of a limit that is passed, if there is one
+-- the words on a limit that is exceeded, if one is
 abbrev pub FoundWords : (List ℕ → Type 0) → Option (Bor (List ℕ)) → Type 0
 FoundWords Is (Some words) = Is words.now
 FoundWords Is None = (words : List ℕ) → Is words → ⊥
@@ -119,12 +119,12 @@ abbrev pub IsLimitIfTold : Faulty → Option (Bor (List ℕ)) → Type 0
 IsLimitIfTold x (Some words) = IsLimitPassed (tokens_of x) (decls_of x) x.at words.now
 IsLimitIfTold x None = IsLimitTold (tokens_of x) (decls_of x) x.at → ⊥
 
--- the same of a limit on what helpers call
+-- the same for a limit on what helpers call
 abbrev pub IsHelperIfTold : List Decl → ℕ → Option (Bor (List ℕ)) → Type 0
 IsHelperIfTold decls at (Some words) = IsHelperLimit decls at words.now
 IsHelperIfTold decls at None = IsFirstOfHelpers decls at → ⊥
 
--- a fault of a limit, there
+-- the fault is a limit exceeded at the byte
 abbrev pub IsLimitAt : Fault → ℕ → Type 0
 IsLimitAt fault at = (fault.code ≡ LimitExceeded) × (fault.start ≡ at)
 
@@ -151,16 +151,16 @@ abbrev pub due_final : List Member → ℕ → Member → Option Final
 due_final members k (final_member f) = if is_at k (place_of member_bears members f.name.text) then Some f else None
 due_final members k _ = None
 
--- all of so many members of the pool at a place are given it
+-- each of the first `count` members of the pool has an `init` of the final reference `member`
 abbrev pub AllGiven : List Decl → ℕ → ℕ → ℕ → Type 0
 AllGiven decls place member count = (k : ℕ) → k < count → IsSome (value_given decls place member k)
 
--- the first to which it is not given; or all are
+-- the first member of the pool without an `init` of the final reference, or all members have one
 abbrev pub FoundFirst : List Decl → ℕ → ℕ → ℕ → Option ℕ → Type 0
 FoundFirst decls place member count (Some n) = IsFirstWithout decls place member count n
 FoundFirst decls place member count None = AllGiven decls place member count
 
--- the same of all final references of a struct
+-- the same for all final references of a struct
 abbrev pub EachGiven : List Decl → ℕ → List Member → ℕ → Type 0
 EachGiven decls place members count =
     (m : ℕ) (f : Final) → the_member members f.name.text ≡ Some (m, final_member f) → AllGiven decls place m count
@@ -169,7 +169,7 @@ abbrev pub FoundMissing : List Decl → ℕ → List Member → ℕ → Option (
 FoundMissing decls place members count (Some found) = IsMissing decls place members count found.0 (final_at found.1)
 FoundMissing decls place members count None = EachGiven decls place members count
 
--- the same of a pool whose name stands there
+-- the same for a pool whose name stands at the byte
 abbrev pub IsWhole : List Decl → ℕ → Pool → ℕ → Type 0
 IsWhole decls place p at =
     (members : List Member) → p.name.span.start ≡ at → members_of decls p.target ≡ Some members → EachGiven decls place members p.length.value

@@ -10,13 +10,13 @@ use Rattle.explanation_names.specs.Vars.{all_of}
 use Rattle.explanation_names.specs.Working.VarsFound.{var_in, some_assigns, section_there}
 use Rattle.explanation_faults.specs.VarNotes.{var_note, fixed_note}
 
--- of the `var` of this name among these statements: that it is one; and if none of them assigns it, and it is the base of one field at
--- most, that a `let` would do
+-- the note on the `var` of this name among these statements. It says also that a `let` would do, if none of the
+-- statements assigns it, and it is the base of at most one field
 abbrev pub note_of_var : Bool → List ℕ → List Stmt → Option Note
 note_of_var is_long q ss =
     first_by (var_in q) ss >>= λ (x : Ident). Some (if is_long || some_assigns q ss then var_note x else fixed_note x)
 
--- of the `var` that the name at this place is
+-- the note on the `var` that the name at the byte is
 abbrev pub var_noted : List Tok → List Decl → ℕ → Option Note
 var_noted tokens decls at =
     token_at at tokens >>= λ i. name_of (slice_get tokens i) >>= λ q. section_there decls at >>= λ (s : Section).

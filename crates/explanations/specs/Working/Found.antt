@@ -25,7 +25,7 @@ abbrev pub class_at : Option core.Protection → List ℕ
 class_at (Some p) = p.class ∷ []
 class_at None = []
 
--- of the struct at a place, with these members: the class at which a member's annotation ends
+-- the class at which the annotation of a member ends, in the struct at a place with these members
 abbrev pub class_for : List Decl → ℕ → List Member → Member → List ℕ
 class_for decls i all (field_member f) = class_at (protection_of decls i all f.protection)
 class_for decls i all _ = []
@@ -43,7 +43,7 @@ classes_by decls i (array a) = class_if (class_of decls a.protection)
 classes_by decls i (struct s) = classes_for decls i s.members
 classes_by decls i _ = []
 
--- of declarations from a place on
+-- the classes at which the annotations of declarations end, from a place on
 abbrev pub classes_from : List Decl → ℕ → List Decl → List ℕ
 classes_from decls i [] = []
 classes_from decls i (d ∷ ds) = classes_by decls i d ++ classes_from decls (suc i) ds

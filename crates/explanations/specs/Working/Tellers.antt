@@ -54,14 +54,14 @@ said_of x path words = said x.program.now x.section.now path words
 abbrev pub IsMade : Typed → Edge → ℕ → Type 0
 IsMade program e next = MakesFirst program e.section e.used e.bound e.class next
 
--- the notes on an edge came behind the others
+-- the two notes on an edge, after the earlier notes
 pub record AddsEdge (program : Typed) (e : Edge) (next : ℕ) (old new : List written.Note) : Type 0 where
   pub usage : Note
   pub binding : Note
   pub added : map note_of new ≡ map note_of old ++ usage ∷ binding ∷ []
   pub tells : TellsEdge program e next usage binding
 
--- and a way out of it behind them
+-- the two notes on an edge and the note on a way out, after the earlier notes
 pub record AddsWhole (program : Typed) (edge : Edge) (next : ℕ) (old new : List written.Note) : Type 0 where
   pub usage : Note
   pub binding : Note
@@ -70,7 +70,7 @@ pub record AddsWhole (program : Typed) (edge : Edge) (next : ℕ) (old new : Lis
   pub tells : TellsEdge program edge next usage binding
   pub tells_way : TellsWayOut program edge way
 
--- the notes on a pair, and ahead of them the one that tells it
+-- the note on a pair of classes and the two notes on its edge, after the earlier notes
 pub record AddsPair (program : Typed) (pair : ClassPair) (old new : List written.Note) : Type 0 where
   pub usage : Note
   pub binding : Note

@@ -1,4 +1,4 @@
--- What is held and told, of values of the code.
+-- The held locks and the lines about them, by the values of the code.
 use Rattle.std.specs.Prelude.{◌≡◌, ℕ, Bool, List, [], Vec, length, map, fold, slice_get, string_bytes, String, Some}
 use Rattle.std.specs.BTreeSet.{BTreeSet, insert_key}
 use Rattle.std.specs.Cmp.Lexicographic.{slice_cmp}
@@ -21,15 +21,15 @@ use Rattle.language_server.specs.Held.{AreHeldLists, held_text, taken_text, held
 
 -- ---- held
 
--- the numbers that sets have
+-- the numbers below `many` that each of the sets has
 abbrev pub numbers_of : ℕ → List PathSet → List (List ℕ)
 numbers_of many sets = map (λ set. filter (has set) (range_with_len 0 many)) sets
 
--- those of sets of what is surely held
+-- the numbers of the lock paths that are surely held at each point
 abbrev pub AreNumbersOf : Points → List ℕ → List (List ℕ) → Type 0
 AreNumbersOf x ranks lists = (sets : List PathSet) × AreSurelyHeld x ranks sets × (lists ≡ numbers_of (length x.classes.items) sets)
 
--- those of what is surely held in a program's section of this number
+-- the same for the program's section of this number
 abbrev pub AreHeldAt : Plan → ℕ → List (List ℕ) → Type 0
 AreHeldAt plan k lists =
     (section : Section) → slice_get plan.program.sections.items k ≡ Some section → AreHeldLists plan.program section plan.ranks lists
@@ -37,16 +37,16 @@ AreHeldAt plan k lists =
 abbrev pub held_in : List (Vec (Vec ℕ Global) Global) → List (List (List ℕ))
 held_in all = map (λ (lists : Vec (Vec ℕ Global) Global). number_lists lists.items) all
 
--- ---- told
+-- ---- lines
 
 abbrev pub told_lines : BTreeSet (String Global) → List (List ℕ)
 told_lines set = map string_bytes set.keys
 
--- these were added
+-- the set after these lines are added
 abbrev pub AddsLines : List (List ℕ) → BTreeSet (String Global) → BTreeSet (String Global) → Type 0
 AddsLines lines old new = told_lines new ≡ fold (insert_key (slice_cmp nat_cmp)) (told_lines old) lines
 
--- of a section
+-- the texts of the paths that are held in a section
 abbrev pub held_text_of : NamedSection → List ℕ → List ℕ
 held_text_of x list = held_text x.program.now x.section.now list
 
@@ -62,7 +62,7 @@ line_if_of x meant held taken = line_if x.program.now x.section.now meant held t
 abbrev pub point_lines_of : NamedSection → ℕ → List Point → List (List ℕ) → List (List ℕ) → List (List ℕ)
 point_lines_of x start ps held taken = point_lines x.program.now x.section.now start ps held taken
 
--- of a program's section of this number
+-- the lines of the program's section of this number
 abbrev pub lines_in : Plan → List (List (List ℕ)) → ℕ → ℕ → Section → List (List ℕ)
 lines_in plan held start k section = point_lines plan.program section start (points section) (lists_at held k) (lists_at plan.lists k)
 

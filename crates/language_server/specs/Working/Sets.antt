@@ -1,4 +1,4 @@
--- What the code finds, in the words of the definitions.
+-- The takes that the code finds, as those of the definitions.
 use Rattle.std.specs.Prelude.{◌≡◌, ℕ, List, [], String, Vec, map, fold, slice_get, string_bytes, Some}
 use Rattle.std.specs.BTreeSet.{BTreeSet, insert_key}
 use Rattle.std.specs.Option.{option_map_or}
@@ -22,11 +22,11 @@ told_by take = record { start = take.start; label = string_bytes take.label }
 abbrev pub told_in : BTreeSet of_code.Take → List Take
 told_in set = map told_by set.keys
 
--- these were added
+-- the set after these takes are added
 abbrev pub AddsTakes : List Take → BTreeSet of_code.Take → BTreeSet of_code.Take → Type 0
 AddsTakes takes old new = told_in new ≡ fold (insert_key compare) (told_in old) takes
 
--- of a section
+-- the text of a lock path of a section
 abbrev pub path_text_of : NamedSection → ℕ → List ℕ
 path_text_of x number = text_at (path_text x.program.now x.section.now) (lock_paths x.program.now x.section.now) number
 
@@ -39,7 +39,7 @@ take_before_of x start list = take_before x.program.now x.section.now start list
 abbrev pub point_takes_of : NamedSection → List Point → List (List ℕ) → List Take
 point_takes_of x ps lists = point_takes x.program.now x.section.now ps lists
 
--- in a program's section of this number
+-- the takes of the program's section of this number
 abbrev pub takes_in : Plan → ℕ → Section → List Take
 takes_in plan k section = point_takes plan.program section (points section) (lists_at plan.lists k)
 

@@ -100,9 +100,9 @@ pub record IsOwnWrite (cell_locks : List Lock) (held : List Lock) (w : ℕ × Va
   pub lock_is : slice_get cell_locks w.0 ≡ Some lock
   pub is_held : Contains held lock
 
--- the section may end with these grants and this entry. No request of it is pending, and the grants are exactly its own.
--- The entry has its thread and its begin. The entry's reads are what the history leaves, its writes are of cells of the
--- section's locks, and the grants have what the history leaves with these writes made
+-- the section may end with these grants and this entry. No request of it is pending, and the grants are exactly its
+-- own. The entry has its thread and its begin. The entry's reads are what the history leaves, its writes are of cells
+-- of the section's locks, and the grants have what the history leaves with these writes made
 pub record Fits (m : Managed) (ticket : TicketOf) (grants : List GrantOf) (entry : Commit) : Type 0 where
   pub no_ask : ticket.session.ask ≡ None
   pub own : AreOf m.layout.cell_locks ticket.session.held grants

@@ -27,7 +27,7 @@ abbrev pub IsToldOr : (Option Edge → Type 0) → Type 0 → Option Edge → Op
 IsToldOr IsTold Lacks (Some e) new = new ≡ Some e
 IsToldOr IsTold Lacks None new = IsTold new ⊎ ((new ≡ None) × Lacks)
 
--- that holds for each two of the given number of classes
+-- the same for each two of the given number of classes
 abbrev pub EachIsToldOr : ℕ → (ℕ → ℕ → Option Edge → Type 0) → (ℕ → ℕ → Type 0) → List (Option Edge) → List (Option Edge) → Type 0
 EachIsToldOr classes IsTold Lacks old new =
     (c d : ℕ) → c < classes → d < classes → IsToldOr (IsTold c d) (Lacks c d) (told_at old c d) (told_at new c d)
@@ -76,7 +76,7 @@ abbrev pub IsTold : Typed → ℕ → ℕ → ℕ → Option Edge → Type 0
 IsTold program sections c d told =
     MatchOption told (IsNotMade program sections c d) (λ e. (e.class ≡ c) × MakesFirst program e.section e.used e.bound c d)
 
--- that holds for each two of the given number of classes
+-- the same for each two of the given number of classes
 abbrev pub AreTold : Typed → ℕ → ℕ → List (Option Edge) → Type 0
 AreTold program sections classes told =
     (c d : ℕ) → c < classes → d < classes → IsTold program sections c d (told_at told c d)

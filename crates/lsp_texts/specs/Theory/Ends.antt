@@ -18,7 +18,7 @@ at_most text at to is = elim (cases_lt at (length text)) [
   | inr past ↦ let same : to ≡ length text = omega arith in ap (position_of text) same ∙ sym (place_past _ text at (omega arith))
 ]
 
--- so a place that is cut off behind the end stays the same
+-- a place that is cut off at a bound after the text's end has the same position
 pub cut_off : (text : List ℕ) (at most to : ℕ) → length text ≤ most → to ≡ min at most → position_of text to ≡ position_of text at
 cut_off text at most to short is =
     let same : min to (length text) ≡ min at (length text) = omega arith in

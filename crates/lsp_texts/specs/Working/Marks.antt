@@ -3,7 +3,7 @@ use Rattle.std.specs.Prelude.{◌≡◌, ℕ, List}
 use Rattle.std.specs.List.{All}
 use Rattle.lsp_texts.specs.declared.walking.Walker.{Walker}
 
--- it is one over the text
+-- the walker is over the text
 abbrev pub IsOf : List ℕ → Walker → Type 0
 IsOf text walker = walker.text.now ≡ text
 

@@ -15,17 +15,17 @@ top_in tables text = get_by (λ k. slice_cmp nat_cmp text k.now) tables.top
 abbrev pub inner_in : Tables → ℕ → List ℕ → Option ℕ
 inner_in tables owner text = get_by (λ k. ordering_then (nat_cmp owner k.0) (slice_cmp nat_cmp text k.1.now)) tables.inner
 
--- a name more at the top level, if it was not there
+-- one more name at the top level, unless it was declared before
 pub record IsWithTop (text : List ℕ) (at : ℕ) (old new : Tables) : Type 0 where
   pub top : (q : List ℕ) → top_in new q ≡ option_or (top_in old q) (if bytes_eq text q then Some at else None)
   pub inner : (o : ℕ) (q : List ℕ) → inner_in new o q ≡ inner_in old o q
 
--- the same within a declaration
+-- the same for a name within the declaration `owner`
 pub record IsWithInner (owner : ℕ) (text : List ℕ) (at : ℕ) (old new : Tables) : Type 0 where
   pub top : (q : List ℕ) → top_in new q ≡ top_in old q
   pub inner : (o : ℕ) (q : List ℕ) → inner_in new o q ≡ option_or (inner_in old o q) (if (owner == o) && bytes_eq text q then Some at else None)
 
--- those of the first tokens
+-- the tables of the names among the first `n` tokens
 pub record AreTablesIn (tokens : List Token) (n : ℕ) (tables : Tables) : Type 0 where
   pub top : (q : List ℕ) → top_in tables q ≡ first (is_top_of tokens q) n
   pub inner : (o : ℕ) (q : List ℕ) → inner_in tables o q ≡ first (is_inner_of tokens o q) n

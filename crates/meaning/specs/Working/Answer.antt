@@ -24,12 +24,12 @@ abbrev pub Answers : Option End → Run → List Value → List Value → Type 0
 Answers None run old new = IsNothing run × (new ≡ old)
 Answers (Some end) run old new = run ≡ Over (record { outcome = end.outcome; prints = end.prints.items; heap = new })
 
--- if there is no answer, the turns were too few
+-- without an answer, the turns were too few
 abbrev pub NoneIsBeyond : Option End → Run → Type 0
 NoneIsBeyond None run = run ≡ Beyond_turns
 NoneIsBeyond (Some end) run = Unit {0}
 
--- if there is no answer to a call of an accepted program on a heap of it, the turns were too few
+-- without an answer to a call of an accepted program on a typed heap, the turns were too few
 abbrev pub NoneIsBeyondIfTyped : {E : Type 0} → Typed → ℕ → ℕ → List Value → List Value → Result (Option End) E → Type 0
 NoneIsBeyondIfTyped program n section arguments heap result =
     IsChecked program → IsHeap program heap →

@@ -1,5 +1,5 @@
--- The numbers of calls that are done and of all calls, and the orders that begin with a next call. Nobody has to believe
--- this: it is proved here, for proofs of this crate and of those above.
+-- The numbers of calls that are done and of all calls, and the orders that begin with a next call. Nobody has to
+-- believe this: it is proved here, for proofs of this crate and of those above.
 use Rattle.std.proofs.Common.{◌≡◌, ◌∙◌, ℕ, ◌+◌, ◌<◌, zero, suc, List, [], ◌∷◌, length, map, replicate, get_or}
 use Rattle.std.proofs.Common.{slice_set, Option, Some, inl, inr, ap, sym, subst, refl, arith}
 use Rattle.std.specs.List.{Contains}

@@ -3,19 +3,19 @@
 -- How the search is proved: the search goes by layers, each of which has the states that a number of calls lead to,
 -- each once. That a state not found isn't there is the invariant of `Layer` (`specs/Working/Tables`). A state has the
 -- cells whose values differ from the opening values, in order (`specs/Working/Changes`), and the states of a layer are
--- compared by this list. The list is a function of the cells (`changes_of`), and the cells are found from it (`applied`).
--- One heap goes from state to state: what was overwritten is undone, and the changes of the next state are made
--- (`Visits`). The changes of a call are looked for only in the cells that it or the way to its state wrote. A `Trail`
--- lists the orders that lead to states, each an earlier one with one more thread. One equation carries the search
--- (`total`). For any weight of the states to which orders lead, the sum over all further orders from each state of a
--- layer, as often as orders lead to it, is the sum over all orders from the opening. One more call keeps it
+-- compared by this list. The list is a function of the cells (`changes_of`), and the cells are found from it
+-- (`applied`). One heap goes from state to state: what was overwritten is undone, and the changes of the next state are
+-- made (`Visits`). The changes of a call are looked for only in the cells that it or the way to its state wrote. A
+-- `Trail` lists the orders that lead to states, each an earlier one with one more thread. One equation carries the
+-- search (`total`). For any weight of the states to which orders lead, the sum over all further orders from each state
+-- of a layer, as often as orders lead to it, is the sum over all orders from the opening. One more call keeps it
 -- (`proofs/Sums`). At the end no call is left, and the number of orders whose end passes a test is the reported one.
 --
 -- The states of the last layer are joined if they don't differ in what is asked for, which keeps each such sum over the
--- parts that are asked for (`proofs/SeenEnds`). That every end is reported follows by two tests: whether the turns don't
--- settle all calls, and whether the end is the given one (`proofs/Whole`). `proofs/Going` has the case of more orders
--- than the limit, and `proofs/Full` shows that different last states have different cells. The next thread of a drawn
--- order is drawn by number among all calls left (`proofs/Drawn`). No clause says that all are equally likely.
+-- parts that are asked for (`proofs/SeenEnds`). That every end is reported follows by two tests: whether the turns
+-- don't settle all calls, and whether the end is the given one (`proofs/Whole`). `proofs/Going` has the case of more
+-- orders than the limit, and `proofs/Full` shows that different last states have different cells. The next thread of a
+-- drawn order is drawn by number among all calls left (`proofs/Drawn`). No clause says that all are equally likely.
 use Rattle.std.specs.Prelude.{◌≡◌, ℕ, ◌*◌, ◌<◌, List, [], ◌∷◌, ◌++◌, length, slice_index_or, slice_set, sum_by}
 use Rattle.std.specs.Prelude.{Option, Some}
 use Rattle.core_lang.specs.declared.typed.Typed.{Typed}

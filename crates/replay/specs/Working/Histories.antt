@@ -14,7 +14,7 @@ use Rattle.replay.specs.Readers.{script_of, IsOpenCall, MayBegin, print_lines, c
 
 -- ---- calls
 
--- what was called
+-- the section and the arguments of an entry's call
 abbrev pub invocation_in : Entry → Invocation
 invocation_in entry = record { section = entry.section; arguments = entry.arguments }
 
@@ -30,7 +30,7 @@ order_of entries = map (λ (e : Entry). e.thread) entries
 abbrev pub of_thread : ℕ → List Entry → List Entry
 of_thread t entries = filter (λ (e : Entry). e.thread == t) entries
 
--- the calls of each thread are those of its script, in order, each once; and there are no others
+-- the calls of each thread are those of its script, in order, each once, and the entries have no other calls
 abbrev pub FollowScripts : Typed → List Entry → Type 0
 FollowScripts program entries = (t : ℕ) → map scheduled_in (of_thread t entries) ≡ script_of program t
 

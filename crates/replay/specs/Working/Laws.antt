@@ -25,17 +25,17 @@ use Rattle.replay.specs.Told.{invocation_in}
 use Rattle.replay.specs.Verdicts.{IsSame, Holds}
 use Rattle.replay.specs.Working.Histories.{ended_in, AreCalls, BeginAsTheyMay, history_lines, text_of, IsHistory}
 
--- of one history one verdict holds at most
+-- at most one verdict holds of a history
 abbrev pub AtMostOneVerdict : Type 0
 AtMostOneVerdict = (turns : ℕ) (callers : Callers) (format : Format) (program : Typed) (lines : List (List ℕ)) (x y : Verdict) →
     IsChecked program → Holds turns callers format program lines x → Holds turns callers format program lines y → x ≡ y
 
--- lines that are the same are those of a history
+-- lines for which the verdict `same` holds are those of a history
 abbrev pub SameIsHistory : Type 0
 SameIsHistory = (turns : ℕ) (callers : Callers) (format : Format) (program : Typed) (lines : List (List ℕ)) → IsSame turns callers format program lines →
     (entries : List Entry) × (heap : List Value) × IsHistory callers format program entries heap lines
 
--- and the lines of a history are the same, with turns enough
+-- the verdict `same` holds for the lines of a history, if the turns are enough
 abbrev pub HistoryIsSame : Type 0
 HistoryIsSame = (callers : Callers) (format : Format) (program : Typed) (entries : List Entry) (heap : List Value) (lines : List (List ℕ)) →
     IsHistory callers format program entries heap lines →
@@ -46,16 +46,16 @@ abbrev pub TextIsOfLines : Type 0
 TextIsOfLines = (format : Format) (program : Typed) (entries : List Entry) (heap : List Value) →
     history_of format program entries heap ≡ text_of (header_of format ∷ history_lines format program entries heap)
 
--- where the turns settle all calls, run one after another, thread 0's whole script first, the lines of these in the first
--- format are the same
+-- if the turns settle all calls, run one after another with thread 0's whole script first, the verdict `same` holds for
+-- the lines of these calls in the first format
 abbrev pub SerialIsSame : Type 0
 SerialIsSame = (turns : ℕ) (program : Typed) (entries : List Entry) →
     let ran = serial_run program turns in
     ran.unsettled ≡ [] → map scheduled_in entries ≡ all_calls program → map ended_in entries ≡ ran.ends →
     IsSame turns Scripts One program (history_lines One program entries ran.heap)
 
--- with turns enough the lines of a legal list of true entries are the same, where the calls are those of the scripts, or from
--- outside, and each says a begin that it may say; the cells are what the entries leave
+-- with turns enough the lines of a legal list of true entries are the same, where the calls are those of the scripts,
+-- or from outside, and each says a begin that it may say; the cells are what the entries leave
 abbrev pub EntriesAreSame : Type 0
 EntriesAreSame = (callers : Callers) (format : Format) (program : Typed) (commits : List Commit) →
     let entries = map entry_of_commit commits in
@@ -80,18 +80,19 @@ pub record HasPlainNames (program : Typed) : Type 0 where
   pub pools_apart : (j k : ℕ) (p q : Pool) → slice_get program.shape.pools.items j ≡ Some p →
       slice_get program.shape.pools.items k ≡ Some q → string_bytes p.name ≡ string_bytes q.name → j ≡ k
 
--- in such a program each call that can be made is told by its text
+-- in such a program, the text of a call that can be made is read back as this call
 abbrev pub PlainCallsAreTold : Type 0
 PlainCallsAreTold = (program : Typed) (section : ℕ) (arguments : List Value) → IsChecked program → HasPlainNames program →
     CanCall program section arguments → HaveBits arguments →
     invocation_in program (invocation_text program section arguments) ≡ Some (record { section = section; arguments = arguments })
 
--- each call of the scripts is told by its text
+-- the text of each call of the scripts is read back as this call
 abbrev pub AreScriptsTold : Typed → Type 0
 AreScriptsTold program = (t k : ℕ) (s : Scheduled) → slice_get (script_of program t) k ≡ Some s →
     invocation_in program (invocation_text program s.call.section s.call.arguments) ≡ Some s.call
 
--- a history of the scripts' calls, each told by its text, that is the same is the same too where anyone may call
+-- a history whose calls are the scripts', each read back from its text, and that is the same, is the same if anyone may
+-- call
 abbrev pub ScriptsAreOpen : Type 0
 ScriptsAreOpen = (turns : ℕ) (format : Format) (program : Typed) (lines : List (List ℕ)) → IsChecked program →
     AreScriptsTold program → length lines < 2 ^ 63 →

@@ -1,4 +1,4 @@
--- What a table of names tells. It mirrors the code: nobody has to believe it.
+-- A table of names, and the number of each. It mirrors the code: nobody has to believe it.
 use Rattle.std.specs.Prelude.{◌≡◌, ℕ, List, Option, Some, if◌then◌else◌}
 use Rattle.std.specs.BTreeMap.{get_by}
 use Rattle.std.specs.Cmp.Lexicographic.{slice_cmp}

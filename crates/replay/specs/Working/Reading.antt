@@ -79,12 +79,12 @@ abbrev pub IsThread : Callers → Typed → ℕ → Type 0
 IsThread Scripts program t = t < length program.threads.items
 IsThread Anyone program t = ⊤
 
--- no calls of others are counted
+-- the seats count no calls of threads that the program does not have
 abbrev pub AreThreads : Callers → Typed → BTreeMap ℕ ThreadProgress → Type 0
 AreThreads Scripts program seats = (t : ℕ) → length program.threads.items ≤ t → called_at seats t ≡ 0
 AreThreads Anyone program seats = ⊤
 
--- what holds of it wherever the reader is
+-- the invariant of the progress, wherever the reader is
 pub record IsSound (callers : Callers) (program : Typed) (at : Progress) : Type 0 where
   pub cells : HasCells program at.heap
   pub typed : IsHeap program at.heap
@@ -94,7 +94,7 @@ pub record IsSound (callers : Callers) (program : Typed) (at : Progress) : Type 
 
 -- ---- what is found of a line
 
--- of a line where a reader is, with the progress after it
+-- the finding on a line, for the reader and the progress after the line
 abbrev pub Found : ℕ → Callers → Format → Typed → Reader → List ℕ → Progress → Finding → Type 0
 Found turns callers format program reader text after Came =
     (next : Reader) × Comes turns callers format program reader next text × IsAt program after next
@@ -102,22 +102,22 @@ Found turns callers format program reader text after Other = IsOther turns calle
 Found turns callers format program reader text after EndsOtherwise = IsOther turns callers format program reader text
 Found turns callers format program reader text after Beyond = IsUnsettled turns callers format program reader text
 
--- the line was read: whatever reader is there, it is found of it
+-- the line was read: the finding holds for each reader that the progress is of
 abbrev pub Reads : ℕ → Callers → Format → Typed → List ℕ → Progress → Progress → Finding → Type 0
 Reads turns callers format program text old new finding =
     (reader : Reader) → IsAt program old reader → Found turns callers format program reader text new finding
 
--- a line that may not come is of no next call up to its end, and the progress is as it was
+-- a line that may not come is not the line of a next call up to its end, and the progress stays
 pub record IsLeft (callers : Callers) (format : Format) (program : Typed) (text : List ℕ) (old new : Progress) : Type 0 where
   pub same : new ≡ old
   pub names : (reader : Reader) → IsAt program old reader → NamesNone callers format program reader (text ∷ [])
 
--- or it ends otherwise than its call, whose line was written
+-- the line ends otherwise than its call, whose line was written
 abbrev pub EndsSo : ℕ → Callers → Format → Typed → List ℕ → Progress → List ℕ → Type 0
 EndsSo turns callers format program text old written = (reader : Reader) → IsAt program old reader →
     MayCome turns callers format program reader written × KeepsCall callers format program reader (text ∷ []) written
 
--- what is left where the line may not come, and what was written
+-- the progress after a line that may not come, and the line that was written for it
 abbrev pub Leaves : ℕ → Callers → Format → Typed → List ℕ → Progress → Progress → List ℕ → Finding → Type 0
 Leaves turns callers format program text old new written Came = ⊤
 Leaves turns callers format program text old new written Other = IsLeft callers format program text old new
@@ -128,13 +128,13 @@ Leaves turns callers format program text old new written Beyond = ⊤
 abbrev pub BeginsWith : List (List ℕ) → Option (List ℕ) → Type 0
 BeginsWith lines line = slice_get lines 0 ≡ line
 
--- what may come at the progress, where the lines that are left begin with this one, and with none of a next call
+-- what may come at the progress, if the remaining lines begin with `line`, which is not the line of a next call
 abbrev pub Suggests : ℕ → Callers → Format → Typed → Progress → Option (List ℕ) → Wanted → Type 0
 Suggests turns callers format program at line wanted = (reader : Reader) (lines : List (List ℕ)) → BeginsWith lines line →
     IsAt program at reader → NamesNone callers format program reader lines →
     IsWanted turns callers format program reader lines wanted
 
--- the same, whatever line is next
+-- the same for each next line
 abbrev pub SuggestsFor : ℕ → Callers → Format → Typed → Progress → Wanted → Type 0
 SuggestsFor turns callers format program at wanted = (line : Option (List ℕ)) → Suggests turns callers format program at line wanted
 
@@ -145,12 +145,12 @@ EndsAs turns callers format program at number judgement = (reader : Reader) (lin
     Holds turns callers format program lines judgement.verdict
     × Explains turns callers format program lines judgement.verdict judgement.wanted
 
--- what the numbers of a call's line lack at the progress
+-- the fault of a line's numbers, at the progress
 abbrev pub LacksAt : Format → Progress → Told → Lack → Type 0
 LacksAt format at told lack = (reader : Reader) → AreSeats at.seats reader.order → at.position ≡ length reader.order →
     LacksNumber format reader.order told lack
 
--- or that they lack nothing
+-- the numbers of a call's line are right at the progress
 abbrev pub AreInTurnAt : Format → Progress → Told → Type 0
 AreInTurnAt format at told = (reader : Reader) → AreSeats at.seats reader.order → at.position ≡ length reader.order →
     AreInTurn format reader.order told
@@ -191,8 +191,8 @@ IsNoCall callers format program at text =
     (reader : Reader) (call : Scheduled) (begun : ℕ) (end : List ℕ) → IsAt program at reader →
     IsNextCall callers format program reader.order text call begun end → ⊥
 
--- the call is the next of its thread, as its seat counts them, if the line is of it up to its end, and no other call's line
--- reads so
+-- the call is the next of its thread, by the count of its seat, if the line is the call's up to its end, and the line
+-- is not that of another call
 pub record IsOnlyCall (callers : Callers) (format : Format) (program : Typed) (at : Progress) (text : List ℕ) (this : CallRef) : Type 0 where
   pub counted : called_at at.seats this.thread ≡ this.step
   pub thread : IsThread callers program this.thread
@@ -210,12 +210,12 @@ abbrev pub IsCandidate : Callers → Format → Typed → Progress → List ℕ 
 IsCandidate callers format program at text (Some this) = IsOnlyCall callers format program at text this
 IsCandidate callers format program at text None = IsNoCall callers format program at text
 
--- up to its end the line of a call is what was written, and the line reads so
+-- `written` is the line of the call up to its end, and the text begins with it
 pub record IsHead (format : Format) (program : Typed) (text : List ℕ) (written : List ℕ) (this : CallRef) : Type 0 where
   pub is : written ≡ call_head format program (scheduled_called this) this.begun
   pub begins : IsTrue (begins written text)
 
--- the same, if there is a call
+-- the same, if there is such a call
 abbrev pub IsHeadOf : Format → Typed → List ℕ → List ℕ → Option CallRef → Type 0
 IsHeadOf format program text written (Some this) = IsHead format program text written this
 IsHeadOf format program text written None = ⊤
@@ -224,7 +224,7 @@ IsHeadOf format program text written None = ⊤
 abbrev pub SeatsAreFull : Typed → BTreeMap ℕ ThreadProgress → Type 0
 SeatsAreFull program seats = (t : ℕ) → called_at seats t ≡ length (script_of program t)
 
--- all that must come; where anyone may call, any number is
+-- the seats count all calls that must come; if anyone may call, each number is right
 abbrev pub SeatsAreAll : Callers → Typed → BTreeMap ℕ ThreadProgress → Type 0
 SeatsAreAll Scripts program seats = SeatsAreFull program seats
 SeatsAreAll Anyone program seats = ⊤

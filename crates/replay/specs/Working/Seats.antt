@@ -1,10 +1,10 @@
--- What a table of seats tells. It mirrors the code: nobody has to believe it.
+-- A table of seats, and the progress of each. It mirrors the code: nobody has to believe it.
 use Rattle.std.specs.Prelude.{◌≡◌, ℕ, unwrap_or}
 use Rattle.std.specs.BTreeMap.{BTreeMap, get}
 use Rattle.std.specs.Ordering.{nat_cmp}
 use Rattle.replay.specs.declared.progress.ThreadProgress.{ThreadProgress}
 
--- where no call of a thread came
+-- the seat of a thread without calls
 abbrev pub empty_seat : ThreadProgress
 empty_seat = record { called = 0; least = 0 }
 

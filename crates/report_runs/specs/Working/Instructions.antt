@@ -9,7 +9,7 @@ use Rattle.locks.specs.LockPaths.{lock_path_of, lock_paths}
 use Rattle.locks.specs.Texts.{path_text}
 use Rattle.report_runs.specs.declared.instructions.SectionTeller.{SectionTeller}
 
--- it has the section's lock paths
+-- the writer has the section's lock paths
 abbrev pub HasPaths : SectionTeller → Type 0
 HasPaths x = map lock_path_of x.listed.paths.now ≡ lock_paths x.program.now x.listed.section.now
 

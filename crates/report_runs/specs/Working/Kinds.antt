@@ -1,4 +1,4 @@
--- By what the code tells runs apart, of the entries and the values of a run.
+-- The parts of a run by which the code distinguishes runs: its entries and its values.
 use Rattle.core_lang.specs.declared.value.Value.{Value}
 use Rattle.core_lang.specs.declared.value.Value.TheVariants.{Int, Ref}
 use Rattle.history.specs.Commits.{Commit}

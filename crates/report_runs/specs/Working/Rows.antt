@@ -1,4 +1,4 @@
--- What is told of a kind of run, as plain data. Nobody has to believe this file.
+-- The row of a kind of run, as plain data. Nobody has to believe this file.
 use Rattle.std.specs.Prelude.{ℕ, List, ◌++◌, codes, string_bytes, count_by}
 use Rattle.std.specs.Fmt.{decimal}
 use Rattle.core_lang.specs.declared.typed.Typed.{Typed}
@@ -6,7 +6,7 @@ use Rattle.code.specs.Listing.{line}
 use Rattle.report_runs.specs.declared.runs_told.Told.{Told}
 use Rattle.report_runs.specs.Runs.{Run, same_order, same_end, same_kind, number_of, run_text}
 
--- what is told of a kind
+-- the row of a kind: its order, its end, the number of its runs, and one history
 pub record Row : Type 0 where
   pub order : ℕ
   pub end : ℕ

@@ -17,7 +17,7 @@ order_in run = map place_of run.log
 abbrev pub end_in : Run → List Held
 end_in run = map held_of run.values
 
--- what a kind shows
+-- what a kind of run shows: its order and its end
 pub record Shown : Type 0 where
   pub order : List Place
   pub end : List Held

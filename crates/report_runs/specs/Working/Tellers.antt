@@ -1,4 +1,4 @@
--- What a teller has told. Nobody has to believe this file.
+-- The text that a step writer has written. Nobody has to believe this file.
 use Rattle.std.specs.Prelude.{◌≡◌, ℕ, Bool, List, ◌++◌, String, string_bytes}
 use Rattle.lowering.specs.Plans.{Plan}
 use Rattle.worlds.specs.declared.event.Event.{Event}
@@ -8,7 +8,7 @@ use Rattle.interleavings.specs.Threads.{ThreadsOf, with_steps}
 use Rattle.report_runs.specs.declared.step_teller.StepWriter.{StepWriter}
 use Rattle.report_runs.specs.Trace.{call_text, instruction_text, coming_text, event_text, step_text, steps_text}
 
--- it tells of a program with this text
+-- a writer of the steps of the program with this text
 pub record IsTellerOf (text : List ℕ) (plan : Plan) (moves all : Bool) (x : StepWriter) : Type 0 where
   pub text_is : x.text.now ≡ text
   pub plan_is : x.program.now ≡ plan
@@ -31,7 +31,7 @@ event_told x = event_text x.text.now x.program.now
 abbrev pub step_told : StepWriter → ℕ → Coming → Event → List ℕ
 step_told x = step_text x.text.now x.program.now x.moves x.all
 
--- these steps were made, and their lines come behind what was written
+-- these steps were made, and their lines follow what was written before
 pub record Tells {Z : Type 0} (x : StepWriter) (steps : List ℕ) (old new : ThreadsOf) (before after : String Z) : Type 0 where
   pub world : new ≡ with_steps old steps
   pub lines : string_bytes after ≡ string_bytes before ++ steps_text x.text.now x.program.now x.moves x.all old.world steps

@@ -20,8 +20,8 @@ pub record AreSameOn (layout : LayoutOf) (locks : List Lock) (heap heap' : List 
   pub cells : (cell : ℕ) (lock : Lock) → slice_get layout.cell_locks cell ≡ Some lock → Contains locks lock →
       slice_get heap' cell ≡ slice_get heap cell
 
--- if the cells of a section are part of a heap, they stay part of it after its instructions, and after a lock that it is
--- granted or waits for. They are also part of another heap with the same values in the cells of its locks
+-- if the cells of a section are part of a heap, they stay part of it after its instructions, and after a lock that it
+-- is granted or waits for. They are also part of another heap with the same values in the cells of its locks
 pub record SectionsStayPart : Type 0 where
   pub moves : (o : OpenOf) (count : ℕ) (heap : List Value) → IsPartOf heap (memory_of o) →
       IsPartOf heap (memory_of (moved_by count o))

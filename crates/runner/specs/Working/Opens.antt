@@ -30,8 +30,8 @@ pub record ReadyOf : Type 0 where
   pub thread : ℕ
   pub step : ℕ
 
--- an open section: its program's plan, its thread, the number of the call among the thread's calls, the most that it can
--- need, and its progress
+-- an open section: its program's plan, its thread, the number of the call among the thread's calls, the most that it
+-- can need, and its progress
 pub record OpenOf : Type 0 where
   pub plan : Plan
   pub thread : ℕ
@@ -114,7 +114,8 @@ abbrev pub moved_by : ℕ → OpenOf → OpenOf
 moved_by zero o = o
 moved_by (suc n) o = moved (moved_by n o)
 
--- the section has run `count` instructions, at most `most`. It has run fewer only if its next step is not an instruction
+-- the section has run `count` instructions, at most `most`. It has run fewer only if its next step is not an
+-- instruction
 pub record Ran (most : ℕ) (o : OpenOf) (count : ℕ) (o' : OpenOf) : Type 0 where
   pub is : o' ≡ moved_by count o
   pub running : (k : ℕ) → k < count → IsRunning (moved_by k o)
@@ -190,7 +191,8 @@ pub record GivenUp (m : Managed) (o : OpenOf) (m' : Managed) : Type 0 where
 
 -- ---- what holds of every open section
 
--- the invariant of an open section: its program is compiled, the section is in order, and its room is that of its section
+-- the invariant of an open section: its program is compiled, the section is in order, and its room is that of its
+-- section
 pub record IsOpen (o : OpenOf) : Type 0 where
   pub compiled : IsCompiled o.plan
   pub in_order : IsInOrder o.plan o.activation

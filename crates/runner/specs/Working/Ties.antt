@@ -50,7 +50,7 @@ open_as plan ticket step call run pending asked = record {
 abbrev pub its_call : SectionFrame → Invocation
 its_call b = call_of b.section b.arguments.items
 
--- the same of a block
+-- the open section of a frame
 abbrev pub open_in : Plan → TicketOf → SectionFrame → OpenOf
 open_in plan ticket b = open_as plan ticket b.step (its_call b) b.machine b.pending.items b.asked
 
@@ -135,7 +135,7 @@ ended_as plan ticket step call run grants asked outcome = record {
   };
 }
 
--- the same of a block
+-- the ended section of a frame
 abbrev pub ended_in : Plan → TicketOf → SectionFrame → OpenOf
 ended_in plan ticket b = ended_as plan ticket b.step (its_call b) b.machine b.grants.items b.asked b.outcome
 

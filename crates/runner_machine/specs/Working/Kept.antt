@@ -38,8 +38,8 @@ pub record IsSpot (cell_locks : List Lock) (grants : List GrantOf) (cell index o
 pub record IsElsewhere (cell_locks : List Lock) (grants : List GrantOf) (cell : ℕ) : Type 0 where
   pub other : (lock : Lock) → slice_get cell_locks cell ≡ Some lock → Contains (locks_of grants) lock → ⊥
 
--- the invariant of held cells: each grant has all cells of its lock, and no lock occurs twice. Only these cells are noted
--- as read or written, and there is room
+-- the invariant of held cells: each grant has all cells of its lock, and no lock occurs twice. Only these cells are
+-- noted as read or written, and there is room
 pub record IsKept (cell_locks : List Lock) (grants : List GrantOf) (reads writes : NotesOf) (locks cells : ℕ)
     : Type 0 where
   pub whole : All (IsWhole cell_locks) grants

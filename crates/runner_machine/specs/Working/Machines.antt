@@ -72,7 +72,8 @@ at_first locals layout room = record {
   cell_room = room.cells;
 }
 
--- the machine after its grants were moved out, without room for cells. What it read and wrote stays, and so does the rest
+-- the machine after its grants were moved out, without room for cells. What it read and wrote stays, and so does the
+-- rest
 abbrev pub without_cells : RunOf → RunOf
 without_cells r = with_holding r (held.without_grants (holding_of r))
 

@@ -31,8 +31,8 @@ abbrev pub led_by : List (ℕ × Value) → ℕ → Option ℕ → Option ℕ
 led_by list cell None = None
 led_by list cell (Some mark) = if_of cell mark (slice_get list mark)
 
--- the index of the note of the cell at a place. A mark counts only if it leads to a note of this cell, so that the marks
--- of former sections may stay
+-- the index of the note of the cell at a place. A mark counts only if it leads to a note of this cell, so that the
+-- marks of former sections may stay
 abbrev pub number_of : NotesOf → ℕ → ℕ → Option ℕ
 number_of n place cell = led_by n.list cell (slice_get n.marks place)
 

@@ -12,7 +12,8 @@ use Rattle.lowering.specs.Plans.{Plan}
 abbrev pub AreCallable : Typed → List Commit → Type 0
 AreCallable program log = All (λ (c : Commit). CanCall program c.section c.arguments) log
 
--- a manager of the plan, whose entries are true and of calls that can be made, and leave a value of its type in each cell
+-- a manager of the plan, whose entries are true and of calls that can be made, and leave a value of its type in each
+-- cell
 pub record IsManagerOf (plan : Plan) (m : Managed) : Type 0 where
   pub layout : m.layout ≡ plan.layout
   pub ranks : m.ranks ≡ plan.ranks

@@ -12,7 +12,8 @@ use Rattle.runner.specs.Working.Answers.{open_of}
 use Rattle.runner.specs.declared.states.Asked.{Asked}
 use Rattle.runner.specs.declared.states.Asked.TheVariants.{Got, Waits}
 
--- for each lock, by its number, the length of the log when the lock was last given back with an entry; 0 if it never was
+-- for each lock, by its number, the length of the log when the lock was last given back with an entry; 0 if it never
+-- was
 pub record LockEndsOf : Type 0 where
   pub layout : LayoutOf
   pub ends : List ℕ

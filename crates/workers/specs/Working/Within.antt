@@ -1,4 +1,5 @@
--- The contracts between the parts of a call, and of a run of all scripts. It mirrors the code: nobody has to believe it.
+-- The contracts between the parts of a call, and of a run of all scripts. It mirrors the code: nobody has to believe
+-- it.
 use Rattle.std.specs.Prelude.{◌≡◌, ◌≤◌, ◌<◌, ◌+◌, ℕ, true, List, [], ◌∷◌, ◌++◌, length, map, Some, None, slice_get, slice_index_or}
 use Rattle.core_lang.specs.declared.value.Outcome.{Outcome}
 use Rattle.core_lang.specs.declared.tree.Section.{Section}

@@ -2,7 +2,7 @@ use Rattle.std.proofs.Common.{◌≡◌, ◌+◌, ◌++◌, string_bytes, drop}
 use Rattle.c_data.specs.Openings.{finals_named}
 use Rattle.c_data.proofs.openings.push_finals_named.Given as goal
 
--- what is written and the text of what is left are the whole text
+-- the written text and that of the remaining final references are the whole text
 abbrev pub invariant-loop-number : goal.invariant-loop-number
 invariant-loop-number l =
     let finals = l.structure.finals.items in

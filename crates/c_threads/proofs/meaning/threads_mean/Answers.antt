@@ -18,7 +18,7 @@ use Rattle.worlds.specs.Worlds.{code_at}
 use Rattle.c_threads.specs.Working.Codes.{IsShortCode}
 use Rattle.c_threads.proofs.meaning.threads_mean.Goals as goal
 
--- the code of each section pushes numbers of 64 bits, as where it lies in memory
+-- the code of each section pushes numbers of 64 bits, wherever it is in memory
 module _ (plan : Plan) (code : ProgramCode) (is : IsCodeOf plan.program plan.lists code) (short : All IsShortCode code.sections.items) where
   of_section : (k : ℕ) (o : Option Section) → slice_get plan.program.sections.items k ≡ o →
       AreShort (option_map_or (λ (section : Section). section_code (lists_at plan.lists k) section) o [])

@@ -61,7 +61,7 @@ all_same t u [] none = refl
 all_same t u (note ∷ notes) none =
     ap₂ (λ (d : Data) (ds : List Data). d ∷ ds) (told_same t u note (none 0 note (omega arith))) (all_same t u notes (λ k d lt. none (suc k) d (omega arith)))
 
--- the object, by where the fault begins and ends
+-- the JSON object, by where the fault begins and ends
 alike : (file t u : List ℕ) (fault : Fault) (notes : List Note) → fault.start ≡ 0 →
     map (note_data t) notes ≡ map (note_data u) notes →
     position_data t 0 ≡ position_data u 0 → position_data t (end_of t 0) ≡ position_data u (end_of u 0) →

@@ -5,7 +5,7 @@ use Rattle.core_lang_helpers.specs.Faults.{DEPTH_LIMIT}
 use Rattle.core_lang_helpers.specs.Graphs.{Body, bodies_of}
 use Rattle.explanation_faults.proofs.helper_limits.is_deep_there.Given as goal
 
--- none so far is declared there, and too deep
+-- no helper so far is declared at the place and too deep
 abbrev pub invariant-loop-number : goal.invariant-loop-number
 invariant-loop-number l =
     (k : ℕ) → k < l.number → (b : Body) → slice_get (bodies_of l.helpers) k ≡ Some b → b.start ≡ l.at → is_endless (bodies_of l.helpers) k ≡ false →

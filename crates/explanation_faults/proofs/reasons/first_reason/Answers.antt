@@ -7,7 +7,7 @@ use Rattle.resolution.specs.Working.Findings.{mistake_of, first as first_one}
 use Rattle.explanation_faults.proofs.reasons.first_reason.Goals as goal
 use Rattle.explanation_faults.proofs.reasons.first_reason.Goals.{else-eq-via-then-eq+else-found-fault, else-eq-via-else-eq}
 
--- the first fault is the one that is asked for
+-- the first fault is the one whose reason is asked for
 pub returns : goal.returns
 returns c = λ decls are first.
     let found = c.in_ok-found.found in

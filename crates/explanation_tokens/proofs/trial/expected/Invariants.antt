@@ -3,7 +3,7 @@ use Rattle.explanation_tokens.specs.Expected.{AreThose, CanCome, all_candidates}
 use Rattle.explanation_tokens.specs.Working.Trials.{AreBefore, before_in}
 use Rattle.explanation_tokens.proofs.trial.expected.Given as goal
 
--- the tokens before the place are what they were, and of those tried so far the ones are found that can come
+-- the tokens before the place stay, and of the candidates so far those that can come are found
 abbrev pub invariant-loop-candidate : goal.invariant-loop-candidate
 invariant-loop-candidate l = record {
   behind : AreBefore l.place l.tokens.items;

@@ -5,7 +5,7 @@ use Rattle.explanations.specs.OrderNotes.{rank_note}
 use Rattle.explanations.proofs.Orders.{map_one_more}
 use Rattle.explanations.proofs.cycle_order.rank_notes.Goals as goal
 
--- the numbers from a to below n are a and those after it
+-- the numbers from `a` to below `n` are `a` and those after it
 range_more : (a n : ℕ) → a < n → range_with_len a (n - a) ≡ a ∷ range_with_len (a + 1) (n - (a + 1))
 range_more a n lt = let e : n - a ≡ suc (n - (a + 1)) = omega arith in rw e refl
 

@@ -12,7 +12,7 @@ use Rattle.explanations.proofs.text.text_warnings.Goals as goal
 pub returns-in-Err-Fault : goal.returns-in-Err-Fault
 returns-in-Err-Fault c = λ tokens tree few has spells. let e = c.in-Err-Fault.ensures.only tokens few has in absurd cc
 
--- its tokens have no tree
+-- the tokens of a text that is refused have no tree
 pub returns-in_default : goal.returns-in_default
 returns-in_default c = λ tokens tree few has spells.
     let none = rw c.deref.ensures.value at (rw c.in_default.is at c.in_ok-tree.ensures) in

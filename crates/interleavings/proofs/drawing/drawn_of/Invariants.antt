@@ -6,7 +6,7 @@ use Rattle.interleavings.proofs.drawing.drawn_of.Given as goal
 abbrev pub decreases-drawing : goal.decreases-drawing
 decreases-drawing l = l.count - length l.items.items
 
--- those so far, and those that the generator gives next
+-- the items so far, and those that the generator gives next, are all items
 abbrev pub invariant-drawing : goal.invariant-drawing
 invariant-drawing l = record {
   few : length l.items.items ≤ l.count;

@@ -5,7 +5,7 @@ use Rattle.language_server.specs.Hints.{hint_data, is_asked}
 use Rattle.language_server.specs.Working.Sets.{told_by, told_in}
 use Rattle.language_server.proofs.hint_list.hint_values.Given as goal
 
--- what is told, with the hints that are left, is the whole
+-- the hints so far and the remaining ones are all hints
 abbrev pub invariant-loop-take : goal.invariant-loop-take
 invariant-loop-take l =
     record {

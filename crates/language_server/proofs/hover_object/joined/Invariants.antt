@@ -4,6 +4,6 @@ use Rattle.code.specs.Listing.{line}
 use Rattle.language_server.specs.Working.Lines.{told_lines}
 use Rattle.language_server.proofs.hover_object.joined.Given as goal
 
--- what is written, with the lines that are left, is the whole
+-- the written lines and the remaining ones are all lines
 abbrev pub invariant-loop-line : goal.invariant-loop-line
 invariant-loop-line l = string_bytes l.text ++ flat_map line (map string_bytes l.line-iterator) ≡ flat_map line (told_lines l.lines)

@@ -4,7 +4,7 @@ use Rattle.language_server.specs.Takes.{compare, in_order, section_takes, takes_
 use Rattle.language_server.specs.Working.Sets.{told_in}
 use Rattle.language_server.proofs.takes.takes.Given as goal
 
--- what is found, with the takes that are left, is the whole
+-- the takes found so far and the remaining ones are all takes
 abbrev pub invariant-loop-number : goal.invariant-loop-number
 invariant-loop-number l =
     let plan = l.program in

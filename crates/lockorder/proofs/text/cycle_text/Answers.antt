@@ -10,7 +10,7 @@ use Rattle.lockorder.proofs.Added.{all_arrows, with_first, with_none}
 use Rattle.lockorder.proofs.text.cycle_text.Goals as goal
 use Rattle.lockorder.proofs.text.cycle_text.Goals.{in-Some+in_ok-push_class-2, in_default}
 
--- a class more, and its arrow
+-- one more class, and its arrow
 arrow_more : (program : Typed) (edges : List Edge) (k : ℕ) (d : Edge) (was mid now arrow : List ℕ) →
     k < length edges → arrow ≡ codes " -> " →
     mid ≡ was ++ class_name program (get_or edges k d).class → now ≡ mid ++ arrow →

@@ -9,7 +9,7 @@ use Rattle.core_lang.specs.declared.typed.Struct.{Struct}
 use Rattle.locks.specs.Theory.Written.{item_here, item_past, piece_added}
 use Rattle.report.proofs.pieces.push_field.Goals as goal
 
--- the name of a field, by what was found on the way to it
+-- the name of a field, by the field that was found on the way to it
 module _ (structs : List Struct) (field : ℕ) where
   abbrev name : Option Field → List ℕ
   name found = option_map_or (λ (f : Field). string_bytes f.name) found []

@@ -4,7 +4,7 @@ use Rattle.std.specs.List.{flat_map, range_with_len}
 use Rattle.report_check.specs.Check.{rank_text}
 use Rattle.report_check.proofs.check.push_ranks.Goals as goal
 
--- the numbers from a to below n are a and those after it
+-- the numbers from `a` to below `n` are `a` and those after it
 range_more : (a n : ℕ) → a < n → range_with_len a (n - a) ≡ a ∷ range_with_len (a + 1) (n - (a + 1))
 range_more a n lt = let e : n - a ≡ suc (n - (a + 1)) = omega arith in rw e refl
 

@@ -5,7 +5,7 @@ use Rattle.indexmap.specs.IndexMap.{get}
 use Rattle.report_check.specs.Sources.{has_place}
 use Rattle.report_check.proofs.sources.index_by_place.Given as goal
 
--- the first helper with a place is the first of those that are left, or else the one of the index
+-- the first helper with a place is the first of the remaining ones, or else the one of the index
 abbrev pub invariant-loop-helper : goal.invariant-loop-helper
 invariant-loop-helper l =
     (start : ℕ)

@@ -5,7 +5,7 @@ use Rattle.flow.specs.Working.PointList.{point_at}
 use Rattle.report_check.specs.Working.HelperIndexes.{put_over}
 use Rattle.report_check.proofs.sources.put_at.Given as goal
 
--- with the points that are left the index is as it will be
+-- with the remaining points the index is complete
 abbrev pub invariant-loop-point : goal.invariant-loop-point
 invariant-loop-point l =
     (start : ℕ)

@@ -2,7 +2,7 @@ use Rattle.std.proofs.Common.{ℕ, zero, suc, ◌<◌, List, [], ◌∷◌, leng
 use Rattle.std.specs.List.{Contains}
 use Rattle.report_runs.proofs.expectation_names.bad_among.Goals as goal
 
--- what is made of an element is among what is made of all
+-- the image of an element is among the images of all
 made_among : {A : Type 0} (f : A → List ℕ) (xs : List A) (i : ℕ) (d : A) → i < length xs → Contains (map f xs) (f (get_or xs i d))
 made_among f [] i d within = absurd (omega arith)
 made_among f (x ∷ xs) zero d within = (0, omega arith, refl)

@@ -3,7 +3,7 @@ use Rattle.std.specs.List.{list_all}
 use Rattle.report_runs.specs.ExpectationCells.{is_numeric}
 use Rattle.report_runs.proofs.expectation_names.bad_among.Given as goal
 
--- those so far stand for sums
+-- the names so far stand for numbers
 abbrev pub invariant-loop-name : goal.invariant-loop-name
 invariant-loop-name l =
     list_all (is_numeric l.program) (map (λ name. name.now) (drop l.name-index l.names))

@@ -6,7 +6,7 @@ use Rattle.report_runs.specs.Names.{is_named}
 use Rattle.report_runs.specs.ExpectationCells.{is_reference, has_reference}
 use Rattle.report_runs.proofs.expectation_names.has_reference.Given as goal
 
--- none so far does
+-- none of the cells so far has a reference
 abbrev pub invariant-loop-cell : goal.invariant-loop-cell
 invariant-loop-cell l =
     list_any (λ (cell : Cell). is_named l.program l.name cell && is_reference cell) (drop l.cell-index l.program.cells.items)

@@ -2,7 +2,7 @@ use Rattle.std.proofs.Common.{◌≡◌, ◌≤◌, ℕ, length, map}
 use Rattle.report_runs.specs.ExpectationTexts.{part_of, in_front, sum_from}
 use Rattle.report_runs.proofs.expectation_reading.sum_from.Given as goal
 
--- the terms so far and those that are left are all
+-- the terms so far and the remaining ones are all terms
 abbrev pub invariant-items : goal.invariant-items
 invariant-items l =
     (n : ℕ) → length l.text ≤ n → (m : ℕ) × (length l.rest ≤ m)

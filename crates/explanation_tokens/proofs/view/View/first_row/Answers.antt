@@ -5,7 +5,7 @@ use Rattle.explanation_tokens.specs.Working.Seen.{fitting}
 use Rattle.explanation_tokens.specs.declared.rows.Row.{Row}
 use Rattle.explanation_tokens.proofs.view.View.first_row.Goals as goal
 
--- the first of two lists, where one of the first list fits, is the first of that; else the first of the second
+-- a row that is found in the first list is found in both lists appended
 found_by : (b : Bool) (p : Row → Bool) (r x : Row) (a c : List Row) → (find p a ≡ Some r → find p (a ++ c) ≡ Some r) →
     (if b then Some x else find p a) ≡ Some r → (if b then Some x else find p (a ++ c)) ≡ Some r
 found_by true p r x a c rest e = e

@@ -4,7 +4,7 @@ use Rattle.explanation.specs.Notes.{note_of}
 use Rattle.explanations.specs.CycleCalls.{edge_calls}
 use Rattle.explanations.proofs.cycle_calls.Calls.push.Given as goal
 
--- those of the edges so far are added
+-- the notes of the edges so far are added
 abbrev pub invariant-loop-edge : goal.invariant-loop-edge
 invariant-loop-edge l =
     map note_of l.notes.items

@@ -7,7 +7,7 @@ use Rattle.flow.specs.Working.PointList.{point_at}
 use Rattle.language_server.specs.Working.Lines.{told_lines, point_lines_of}
 use Rattle.language_server.proofs.named_section.NamedSection.add_lines.Given as goal
 
--- what is found, with the lines that are left, is the whole
+-- the lines found so far and the remaining ones are all lines
 abbrev pub invariant-loop-i : goal.invariant-loop-i
 invariant-loop-i l =
     fold (insert_key (slice_cmp nat_cmp)) (told_lines l.found)

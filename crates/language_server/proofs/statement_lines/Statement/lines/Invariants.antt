@@ -6,7 +6,7 @@ use Rattle.language_server.specs.Held.{section_lines}
 use Rattle.language_server.specs.Working.Lines.{held_in, told_lines, lines_of_statement}
 use Rattle.language_server.proofs.statement_lines.Statement.lines.Given as goal
 
--- what is found, with the lines that are left, is the whole
+-- the lines found so far and the remaining ones are all lines
 abbrev pub invariant-loop-number : goal.invariant-loop-number
 invariant-loop-number l =
     let plan = l.self.program.now in

@@ -20,7 +20,7 @@ module _ (inside locks held : List Lock) (same : inside ≡ locks) (writes : Lis
       all_fails (IsOwnWrite locks held) writes i d lt
       (λ own. absurd (omega (arith, slice_get_within locks (get_or writes i d).0 own.lock own.lock_is, past, is, ap length same)))
 
-  -- a write of a cell whose lock isn't held
+  -- a write of a cell whose lock is not held
   not_held : (lock : Lock) (b : Bool) → slice_get inside (get_or writes i d).0 ≡ Some lock →
       (Contains held lock → b ≡ true) → b ≡ false →
       (IsTrue false → All (IsOwnWrite locks held) writes) × (All (IsOwnWrite locks held) writes → IsTrue false)

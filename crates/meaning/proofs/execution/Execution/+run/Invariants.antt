@@ -21,7 +21,7 @@ invariant-steps-loop-s l = record {
   keeps : Keeps l.fn.self l.self;
 }
 
--- a call goes on less deep, and each helper is less than this
+-- a call is one level deeper, and each helper's body is smaller than the room for a call
 abbrev pub decreases-steps : goal.decreases-steps
 decreases-steps l = l.bounds.now.depth * room l.shape.now + 8 * goal.size-steps l
 

@@ -12,7 +12,7 @@ cells_of writes = map (λ (w : ℕ × Value). w.0) writes
 pub returns-clause-order : goal.returns-clause-order
 returns-clause-order c = IsNonDecreasingBy-from_sort (λ x. x) _ c.sort_unstable.ensures.sorted
 
--- what is to be found before the sort
+-- the cells of two lists of writes, before they are sorted
 both : (first then : List (ℕ × Value)) (i : ℕ) (cells : List ℕ) → cells ≡ cells_of first ++ cells_of (take i then) →
     take i then ≡ then → cells ≡ cells_of first ++ cells_of then
 both first then i cells is all = is ∙ ap (λ (l : List (ℕ × Value)). cells_of first ++ cells_of l) all

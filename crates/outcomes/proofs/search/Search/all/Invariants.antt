@@ -7,7 +7,7 @@ use Rattle.outcomes.specs.Working.Steps.{IsBack, start_of}
 use Rattle.outcomes.proofs.Configurations.{AreConfigurationsBelow}
 use Rattle.outcomes.proofs.search.Search.all.Given as goal
 
--- sums over what is left from the layer's states are those over all orders
+-- the sums over the orders from the states of the layer are the sums over all orders
 abbrev pub invariant-loop-depth : goal.invariant-loop-depth
 invariant-loop-depth l = record {
   back : IsBack l.self l.work;

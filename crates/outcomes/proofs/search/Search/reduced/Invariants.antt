@@ -8,7 +8,7 @@ use Rattle.outcomes.specs.Working.Reducing.{Covers}
 use Rattle.outcomes.proofs.Configurations.{AreLedBelow}
 use Rattle.outcomes.proofs.search.Search.reduced.Given as goal
 
--- each order goes by way of the layer's states
+-- each order goes through a state of the layer
 abbrev pub invariant-loop-depth : goal.invariant-loop-depth
 invariant-loop-depth l = record {
   back : IsBack l.self l.work;

@@ -60,7 +60,7 @@ returns-then-not-has_room-clause-steps c =
     (over_from search c.args.from.now (invocation c.in-Some.call.now) c.args.work.now.heap c.run.new.heap c.in-Some-2.end.outcome c.requires.there over.0)
     (rw c.orders.ensures at many)
 
--- as many cells as before any call
+-- the heap has as many cells as before any call
 as_many : (first then : List (ℕ × Value)) (cells before opening opened : List Value) → undone then cells ≡ before → undone first before ≡ opened →
     opening ≡ opened → length cells ≡ length opening
 as_many first then cells before opening opened back back' same =

@@ -42,7 +42,7 @@ push-requires-clause-changes c =
     seen_long asked c.cells.result.now opening long ∙ sym (ap (λ (l : List Value). length l) c.requires.opening) in
     are_changes c.args.ends.now.opening (seen_cells asked c.cells.result.now) c.in_ok-changes-2.changes.items seen_is is
 
--- what the changes lead to is what is seen
+-- the changes give the cells that are reported
 pub returns-in-Some : goal.returns-in-Some
 returns-in-Some c =
     let opening = opening_heap c.args.self.now.program.now in

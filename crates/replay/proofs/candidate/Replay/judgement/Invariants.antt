@@ -3,7 +3,7 @@ use Rattle.input_files.specs.Histories.{lines_in, recorded_lines}
 use Rattle.replay.proofs.Replays.{HasRead}
 use Rattle.replay.proofs.candidate.Replay.judgement.Given as goal
 
--- the lines before those that are left came
+-- the lines before the remaining ones came
 abbrev pub invariant-lines : goal.invariant-lines
 invariant-lines l = record {
   read : HasRead l.self.turns l.self.callers l.self.format l.self.program.now (recorded_lines l.recorded) l.number (lines_in l.rest) l.at;

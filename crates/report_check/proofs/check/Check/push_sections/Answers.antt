@@ -21,7 +21,7 @@ table_has program paths i s x are lt here there =
     (are.each i s x (slice_get_read program.sections.items k i s refl lt here)
     (slice_get_read paths.sections.items k i x (sym are.sections) lt there)).paths
 
--- a group that was kept last
+-- the group that was kept last
 last_is : (groups : List (List (List ℕ))) (parts : List (List ℕ)) →
     slice_get (groups ++ parts ∷ []) (length groups) ≡ Some parts
 last_is [] parts = refl

@@ -3,7 +3,7 @@ use Rattle.report.specs.Entry.{scheduled_called}
 use Rattle.report_runs.specs.Outcomes.{answer_texts}
 use Rattle.report_runs.proofs.ends.Ends.push_answers.Given as goal
 
--- what is written and the text of what is left are the whole text
+-- the written text and that of the remaining items are the whole text
 abbrev pub invariant-loop-number : goal.invariant-loop-number
 invariant-loop-number l =
     string_bytes l.out ++ answer_texts l.self.program.now l.known l.answers l.number (map scheduled_called (drop l.number l.calls))

@@ -3,7 +3,7 @@ use Rattle.outcomes.specs.Ends.{told_of}
 use Rattle.report_runs.specs.Breaches.{breach_in}
 use Rattle.report_runs.proofs.expected_ends.ExpectedEnds.breach.Given as goal
 
--- those so far meet it
+-- the ends so far meet the expectation
 abbrev pub invariant-loop-end : goal.invariant-loop-end
 invariant-loop-end l =
     breach_in l.self.ends.now.asked.now.cells l.self.comparison.now (map told_of (drop l.end-index l.self.ends.now.ends.now))

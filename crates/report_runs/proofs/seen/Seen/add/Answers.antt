@@ -26,7 +26,7 @@ returns-in-Some-get_index_of c = λ program runs seen.
     (rows_raised program runs run _ seen.told seen.known _ _ seen.distinct there
     (told_raised old.told.items _ _ _ c.index_mut.ensures.value c.in_ok-count_one.ensures _ at))
 
--- it is of a new kind
+-- the run is of a new kind
 pub returns : goal.returns
 returns c = λ program runs seen.
     let run : Run = record { log = c.args.history.now.commits; values = c.args.values.now } in

@@ -83,7 +83,7 @@ returns-in_default c =
     let gone = ap (λ (p : Typed). slice_get p.sections.items k) (sym c.expanded-typed.ensures.program) ∙ past in
     none_put (string_bytes c.args.out.now) _ (untold x.text.now x.program.now k c.args.place gone)
 
--- the code of the section at hand
+-- the code of this section
 pub push_at-requires-clause-rises : goal.push_at-requires-clause-rises
 push_at-requires-clause-rises c =
     let x = c.args.self.now in
