@@ -13,6 +13,7 @@ NAME is one of
     crates      the groups of crates.txt, and for each crate the first sentence of its head (`//!` of lib.rt or main.rt)
     commands    each command with its arguments and what it does, from script/help, which tests/words.sh compares with the
                 program
+    notes       the notes that `explain` writes on each code, from the definitions whose comments begin with codes, as `E05`
     figures_..  what the benches printed, by script/figures.py
 
 docs/BELIEVED.md is made as a whole, by tests/believed.py.
@@ -66,7 +67,70 @@ def commands():
     return "\n".join([*rows, ""])
 
 
-TABLES = {"crates": crates, "commands": commands, **figures.tables()}
+# The definitions of the words of notes; what stands for the terms in these words, by the function or the last field.
+NOTES = [
+    *(f"explanation_tokens/specs/{name}.antt" for name in ("Advice", "Expected")),
+    *(f"explanation_faults/specs/{name}.antt" for name in ("TextNotes", "FaultNotes", "ReasonNotes", "VarNotes")),
+    *(f"explanation_faults/specs/{name}.antt" for name in ("LimitsPassed", "AmountsPassed", "HelperLimits")),
+]
+STAND = {
+    **dict.fromkeys(("type_words", "kind_words", "want_words"), ["TYPE"]),
+    "referent_words": ["KIND"],
+    "role_words": [", and KIND is expected", ", and keeps what it is"],
+    **dict.fromkeys(("hint_words", "said_first", "[]"), [""]),
+    **{"flat_map": ["ADVICE"], "candidate_text": ["W"], "candidate_texts": [", W, .."], "decimal": ["N"]},
+    **{"i.field.text": ["FIELD"], "p.name.text": ["POOL"], "x.text": ["NAME"]},
+}
+
+
+def terms(text, between):
+    """The parts of a term, cut at `between` where it is outside of brackets and strings."""
+    parts, depth = [""], 0
+    for piece in re.findall(rf'"(?:[^"\\]|\\.)*"|{re.escape(between)}|.', text):
+        depth += (piece == "(") - (piece == ")")
+        if piece == between and depth == 0:
+            parts.append("")
+        else:
+            parts[-1] += piece
+    return [part.strip() for part in parts if part.strip()]
+
+
+def said(term, sides):
+    """The texts that a term can be. `sides` has the right sides of each definition of words."""
+    texts = [""]
+    for part in terms(term, "++"):
+        head, *given = terms(part, " ")
+        if head == "codes":
+            own = [given[0][1:-1]]
+        elif head in ("name_note", "note_on", "note_of_all"):
+            own = [("NAME" if head == "name_note" else "") + text for text in said(given[-1], sides)]
+        elif head.startswith("("):
+            own = said(head[1:-1], sides)
+        else:
+            own = STAND[head] if head in STAND else [text for side in sides[head] for text in said(side, sides)]
+        texts = [text + more for text in texts for more in own]
+    return [text for text in texts if text]
+
+
+def notes():
+    """A row for each definition of the words of a note, in the order of the codes."""
+    sides, listed, rows = {}, [], []
+    for block in "\n\n".join((TOP / "crates" / path).read_text() for path in NOTES).split("\n\n"):
+        comment, text = re.match(r"((?:-- [^\n]*\n)*)(.*)", block, re.S).groups()
+        name = re.match(r"(?:(?:abbrev|data|pub) )+(\w+)", text)
+        if name:
+            lines = re.sub(r"\n +", " ", text).splitlines()[1:]
+            sides[name[1]] = [line.split(" = ", 1)[1] for line in lines if " = " in line] or re.findall(r'codes "[^"]*"', text)
+            listed.append((re.match(r"(E\d\d)(?: and (E\d\d))?, (.*)", comment.replace("\n-- ", " ")[3:].strip()), name[1]))
+    for marked, name in listed:
+        if marked:
+            codes = ", ".join(f"`{code}`" for code in marked.groups()[:2] if code)
+            texts = [f"`` {text} ``" if "`" in text else f"`{text}`" for side in sides[name] for text in said(side, sides)]
+            rows.append(f"| {codes} | {', '.join(texts)} | {marked[3]} |")
+    return "\n".join(["| Code | `WORDS` | For what, and where |", "|---|---|---|", *sorted(rows, key=lambda row: row[:7]), ""])
+
+
+TABLES = {"crates": crates, "commands": commands, "notes": notes, **figures.tables()}
 
 
 def made(path):
