@@ -127,7 +127,7 @@ FAULTY = [
     ("thread", "f(1)", SEMICOLON),
     ("top", "struct S { lock l; };", "leave this `;` out"),
     ("body", "n = 1;;", "leave this `;` out"),
-    ("body", "n;", "a name alone is no statement: write `n = ..;`"),
+    ("body", "n;", "a name alone is not a statement: write `n = ..;`"),
     ("body", "if (n == 0) { n = 1;", "this `{` is not closed"),
     ("all", "lock G;\nglobal int n protected_by(G);\natomic f() {\n  n = 1;\natomic g() { n = 2; }\n", "this `{` is not closed"),
     ("all", "lock G;\natomic f() {\n  if (1 == 1) {\n", "this `{` is not closed"),

@@ -32,7 +32,7 @@ printf 'section f\n0 acquire G\n1 int 1\n2 store n\n3 end\n' >listed
 printf 'history 1\ncall 0 0 f() ends\ncells\nn 1\nend\n' >history
 printf 'orders 1 all\nstates 2\noutcome 1 after 0\ncells\nn 1\nend\n' >outcomes
 printf 'autolock: no cell is named m\n' >no_cell
-printf 'autolock: --expect: n == is no comparison, at byte 4\n' >no_comparison
+printf 'autolock: --expect: n == is not a comparison, at byte 4\n' >no_comparison
 { cat outcomes; echo 'expected n == 1 holds in all orders'; } >expected
 { cat outcomes; printf 'expected n > 1 fails after 0\ncells\nn 1\nend\n'; } >unexpected
 printf 'orders 0 drawn\n' >drawn

@@ -189,7 +189,7 @@ fn run_words<R: Threads + Wait + Sync, O: Write, E: Write>(
             return Status::OutOfMemory;
         }
         Err(_) => {
-            streams.err.put(b"autolock: the words are no text\n");
+            streams.err.put(b"autolock: the words are not UTF-8\n");
             return Status::BadWords;
         }
     };

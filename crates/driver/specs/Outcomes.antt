@@ -130,9 +130,9 @@ unknown_cell name = codes "autolock: no cell is named " ++ name
 abbrev pub no_number : List ℕ → List ℕ
 no_number name = codes "autolock: " ++ name ++ codes " holds no number"
 
--- the message `autolock: --expect: TEXT is no comparison, at byte N`
+-- the message `autolock: --expect: TEXT is not a comparison, at byte N`
 abbrev pub no_comparison : List ℕ → ℕ → List ℕ
-no_comparison text byte = codes "autolock: --expect: " ++ text ++ codes " is no comparison, at byte " ++ decimal byte
+no_comparison text byte = codes "autolock: --expect: " ++ text ++ codes " is not a comparison, at byte " ++ decimal byte
 
 -- the names in what is expected, if something is
 abbrev pub AreExpectedNames : Option (List ℕ) → Option (List (List ℕ)) → Type 0

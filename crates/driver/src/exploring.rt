@@ -56,7 +56,7 @@ fn no_comparison(alloc: Global, text: &str, bad: BadExpectation) -> Result<Answe
     let start = bad.start;
     let mut message = String::from_str(alloc, "autolock: --expect: ")?;
     message.push_str(text)?;
-    message.push_str(" is no comparison, at byte ")?;
+    message.push_str(" is not a comparison, at byte ")?;
     write!(message, "{start}")?;
     Answer::refused(alloc, Status::BadInput, message)
 }

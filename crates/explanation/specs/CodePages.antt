@@ -50,16 +50,16 @@ places WrongType =
     ∷ codes "  struct."
     ∷ codes "- Of `==` and `!=` at the right side where both are unlike, at the left where"
     ∷ codes "  both are truth values."
-    ∷ codes "- After `where`: at the first name, where the bound local is no reference or"
-    ∷ codes "  the member a field not final; at the second, where that is no local, or of"
-    ∷ codes "  another type than the final reference."
+    ∷ codes "- After `where`: at the first name, where the bound local is not a reference"
+    ∷ codes "  or the member is a field that is not final; at the second, where that is not"
+    ∷ codes "  a local, or is of another type than the final reference."
     ∷ codes "- At the helper's name in a `let`, where it has no result or one of another"
     ∷ codes "  type."
     ∷ codes "- At a name of the wrong kind: an array or pool without index, or a section,"
     ∷ codes "  helper, struct or thread, as a value; an index after anything else; a field"
     ∷ codes "  after a top-level name, an int or a lock (at the first name); a declared"
-    ∷ codes "  name that is no struct in a type, no pool in an `init` or a constant, no"
-    ∷ codes "  section in a thread's call, no helper after `call`."
+    ∷ codes "  name that is not a struct in a type, a pool in an `init` or a constant, a"
+    ∷ codes "  section in a thread's call, or a helper after `call`."
     ∷ [])
 places WrongArgumentCount =
     flat_map line
@@ -86,7 +86,7 @@ places ProtectedByPassesNonFinal =
 places UnstableBase =
     flat_map line
     (codes "At the first name of an access to a field under an object's lock, where what"
-    ∷ codes "comes before it is no stable path. At the second name after `where`, where"
+    ∷ codes "comes before it is not a stable path. At the second name after `where`, where"
     ∷ codes "that is a `var`."
     ∷ [])
 places LockOrderCycle =

@@ -45,16 +45,16 @@ in an annotation, an `init`, a type or a call.
   struct.
 - Of `==` and `!=` at the right side where both are unlike, at the left where
   both are truth values.
-- After `where`: at the first name, where the bound local is no reference or
-  the member a field not final; at the second, where that is no local, or of
-  another type than the final reference.
+- After `where`: at the first name, where the bound local is not a reference
+  or the member is a field that is not final; at the second, where that is not
+  a local, or is of another type than the final reference.
 - At the helper's name in a `let`, where it has no result or one of another
   type.
 - At a name of the wrong kind: an array or pool without index, or a section,
   helper, struct or thread, as a value; an index after anything else; a field
   after a top-level name, an int or a lock (at the first name); a declared
-  name that is no struct in a type, no pool in an `init` or a constant, no
-  section in a thread's call, no helper after `call`.
+  name that is not a struct in a type, a pool in an `init` or a constant, a
+  section in a thread's call, or a helper after `call`.
 "#
         }
         Code::WrongArgumentCount => {
@@ -82,7 +82,7 @@ final reference.
         }
         Code::UnstableBase => {
             r#"At the first name of an access to a field under an object's lock, where what
-comes before it is no stable path. At the second name after `where`, where
+comes before it is not a stable path. At the second name after `where`, where
 that is a `var`.
 "#
         }

@@ -60,7 +60,7 @@ lock_note x = name_note x (lock_words x)
 
 -- E12, at the name of the member that the annotation passes
 abbrev pub passed_note : Member → Note
-passed_note m = name_note (member_name m) (codes " is declared here, and is no final reference")
+passed_note m = name_note (member_name m) (codes " is declared here, and is not a final reference")
 
 -- the words on the member P[N] of a pool
 abbrev pub gap_words : Pool → ℕ → List ℕ

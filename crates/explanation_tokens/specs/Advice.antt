@@ -272,7 +272,7 @@ words advice.TopRef = codes "data is declared by `global ref G .. protected_by(.
 words advice.LockArray = codes "there are no arrays of locks: put the lock into a struct, and declare a pool of it"
 words advice.FieldArray = codes "a struct has no arrays: declare a pool of what they would hold, or a global array"
 words advice.GlobalStruct = codes "objects are declared by a pool: `pool F G[1];`"
-words advice.NameAlone = codes "a name alone is no statement: write `E = ..;`"
+words advice.NameAlone = codes "a name alone is not a statement: write `E = ..;`"
 words advice.NoSemicolon = codes "leave this `;` out"
 words advice.Semicolon = codes "a `;` may be missing after this"
 words advice.CallBound = codes "bind the result first: `let y: int = call G(..);`"

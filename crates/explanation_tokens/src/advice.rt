@@ -190,7 +190,7 @@ impl Advice {
                 "a struct has no arrays: declare a pool of what they would hold, or a global array"
             }
             Advice::GlobalStruct => "objects are declared by a pool: `pool F G[1];`",
-            Advice::NameAlone => "a name alone is no statement: write `E = ..;`",
+            Advice::NameAlone => "a name alone is not a statement: write `E = ..;`",
             Advice::NoSemicolon => "leave this `;` out",
             Advice::Semicolon => "a `;` may be missing after this",
             Advice::CallBound => "bind the result first: `let y: int = call G(..);`",

@@ -16,5 +16,5 @@ pub returns : goal.returns
 returns c = record {
   member = member_at c.in-Some.member;
   passed = sym (c.in-Some.ensures ∙ at_same (decls_of c.args.self.now) c.args.self.now.at);
-  said = c.in_ok-note.ensures ∙ ap (λ (x : Ident). name_note x (codes " is declared here, and is no final reference")) c.member_name-name.ensures;
+  said = c.in_ok-note.ensures ∙ ap (λ (x : Ident). name_note x (codes " is declared here, and is not a final reference")) c.member_name-name.ensures;
 }
