@@ -60,7 +60,8 @@ def of_code(text, mark):
             yield begun, re.sub(r"`[^`]*`", "X", " ".join(block))
         block, begun = [], 0
         for string in re.findall(r'"((?:[^"\\]|\\.)* (?:[^"\\]|\\.)*)"', line):
-            yield number, string
+            # (semicolons of a string are those of C or of a sample program)
+            yield number, string.replace(";", ",")
 
 
 def places(path):
