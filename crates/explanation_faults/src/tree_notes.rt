@@ -230,7 +230,11 @@ impl<'a> Faulty<'a> {
             return Ok(None);
         };
         let name = member_name(member);
-        let note = name_note(alloc, name, " is declared here, and is not a final reference")?;
+        let note = name_note(
+            alloc,
+            name,
+            " is declared here, and is not a final reference",
+        )?;
         Ok(Some(note))
     }
 
