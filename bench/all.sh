@@ -17,8 +17,9 @@ if [ "${1:-}" = --unproved ]; then
   export AUTOLOCK=$top/out/unproved/autolock BENCH_BUILT=$top/out/bench
   rt=$(dirname -- "$(readlink -f -- "$(command -v rt)")")
   "$top/script/unproved.py" "$rt" "$top/crates/autolock" "$AUTOLOCK" || exit
+  # (one that is there is used again: remove out/bench after a change)
   for name in $programs; do
-    "$here/build.sh" --unproved "$name" >/dev/null || echo "$name was not built"
+    [ -x "$BENCH_BUILT/bench_$name" ] || "$here/build.sh" --unproved "$name" >/dev/null || echo "$name was not built"
   done
 else
   export AUTOLOCK=$top/crates/autolock/out/autolock
