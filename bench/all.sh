@@ -5,7 +5,8 @@
 # that can't run here (no lua5.4, say) is reported, and the others go on. script/docs.py makes docs/FIGURES.md of the file.
 #
 #     bench/all.sh              over the proved program of this checkout, and benches that are proved too
-#     bench/all.sh --unproved   over programs of the same sources that are compiled without the proofs
+#     bench/all.sh --unproved   over programs that are made without proofs, to try the benches: they are optimized less, so
+#                               that their figures are kept in out/bench/results.txt and are none of the page's
 set -uo pipefail
 here=$(cd "$(dirname "$0")" && pwd)
 top=$(dirname "$here")
@@ -14,6 +15,7 @@ programs="lexer parser types analysis compile manager meaning workers unseen"
 kind=proved
 if [ "${1:-}" = --unproved ]; then
   kind="without proofs"
+  results=$top/out/bench/results.txt
   export AUTOLOCK=$top/out/unproved/autolock BENCH_BUILT=$top/out/bench
   rt=$(dirname -- "$(readlink -f -- "$(command -v rt)")")
   "$top/script/unproved.py" "$rt" "$top/crates/autolock" "$AUTOLOCK" || exit
