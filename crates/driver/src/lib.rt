@@ -12,8 +12,7 @@
 //!   each section, also as [`listing`] (`Listings`), the sections in C (`Emissions`), all calls one after another, also as
 //!   [`serial`] (`Serial`), the ends of the cells, over the orders of the calls (`Outcomes`), or a steps file (`Schedules`).
 //! - [`order_graph`]: which lock class has to come before which, as a graph (`OrderGraphs`).
-//! - [`explain`]: the fault of a program, with its place in the source (`Explanations`). [`explain_code`]: what a code means
-//!   (`Pages`).
+//! - [`explain`]: the fault of a program, with its place (`Explanations`). [`explain_code`]: the meaning of a code (`Pages`).
 //! - [`format`]: the text in its layout (`Formats`).
 //! - [`lsp`]: answers an editor's messages in turn (`Editors`).
 //! - [`run`]: a history of the program's scripts, each run by a thread of its own, or how a number of such runs differ
