@@ -268,20 +268,20 @@ def judge_comparison(program, path, comparison, count):
 
 # What is told of texts that are no comparison, and of names that stand for no sum.
 FAULTY = {
-    "": "no comparison, at byte 0",
-    "n": "no comparison, at byte 1",
-    "n ==": "no comparison, at byte 4",
-    "n == ": "no comparison, at byte 5",
-    "n = 1": "no comparison, at byte 2",
-    "n == 1 2": "no comparison, at byte 7",
-    "n == 1 == 1": "no comparison, at byte 7",
-    "n == --1": "no comparison, at byte 6",
-    "+n == 1": "no comparison, at byte 0",
-    "n + == 1": "no comparison, at byte 4",
-    "n == 1x": "no comparison, at byte 5",
-    "n == 9223372036854775808": "no comparison, at byte 5",
-    "n\n== 1": "no comparison, at byte 1",
-    "n == 1;": "no comparison, at byte 6",
+    "": "not a comparison, at byte 0",
+    "n": "not a comparison, at byte 1",
+    "n ==": "not a comparison, at byte 4",
+    "n == ": "not a comparison, at byte 5",
+    "n = 1": "not a comparison, at byte 2",
+    "n == 1 2": "not a comparison, at byte 7",
+    "n == 1 == 1": "not a comparison, at byte 7",
+    "n == --1": "not a comparison, at byte 6",
+    "+n == 1": "not a comparison, at byte 0",
+    "n + == 1": "not a comparison, at byte 4",
+    "n == 1x": "not a comparison, at byte 5",
+    "n == 9223372036854775808": "not a comparison, at byte 5",
+    "n\n== 1": "not a comparison, at byte 1",
+    "n == 1;": "not a comparison, at byte 6",
     "m == n": "no cell is named m",
     "n == 1 + n[0]": "no cell is named n[0]",
     "q == 0": "q holds no number",
@@ -298,7 +298,7 @@ def judge_faulty(program, folder):
     failed = 0
     for text, want in FAULTY.items():
         done = subprocess.run([program, "outcomes", f"--expect={text}", path], capture_output=True, timeout=120)
-        told = f"autolock: --expect: {text} is {want}\n" if want.startswith("no comparison") else f"autolock: {want}\n"
+        told = f"autolock: --expect: {text} is {want}\n" if want.startswith("not a comparison") else f"autolock: {want}\n"
         if (done.returncode, done.stdout, done.stderr.decode("latin-1")) != (6, b"", told):
             print(f"FAILED --expect {text!r}: status {done.returncode}: {done.stderr} for {told!r}")
             failed += 1
