@@ -14,7 +14,7 @@
 //     ref Node next protected_by(List);
 //   }
 //
-// All else stays as it is. check: one class, List. sum takes it before it reads here.value.
+// All else stays as it is. Another way out keeps the locks of the nodes: whole_walk.al.
 
 struct Node {
   lock l;

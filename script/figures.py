@@ -39,8 +39,8 @@ class Results:
         """A sentence of the commit, the programs and the machine."""
         fields = dict(line.split(" ", 1) for line in self.head)
         loads = [float(load) for load, _ in self.benches.values()]
-        return (f"Commit {fields['commit']}; programs {fields['programs']}; {fields['machine']}; "
-                f"a load of {min(loads)} to {max(loads)} when a bench began.\n")
+        return (f"All figures are of commit {fields['commit']}, its programs {fields['programs']}, on {fields['machine']}. "
+                f"The load was {min(loads)} to {max(loads)} when a bench began.\n")
 
     def ratios(self):
         """A row for each thing that is compared: the least and the greatest ratio, and the mean."""

@@ -38,6 +38,8 @@ FAULTY = [
     ("body", "if (n = 0) { n = 1; }", "two values are compared by `==`"),
     ("top", "atomic g() { n = 1; } }", "this `}` closes nothing"),
     ("body", "n = 1.5;", "numbers are whole"),
+    ("top", "call g(ref Acc a) lock(Acc.l) { a.balance = 1; }", "a helper's locks are those of what calls it"),
+    ("top", "call g() : int lock(Acc.l) { return 1; }", "a helper's locks are those of what calls it"),
     ("body", "n = 0x10;", "decimal digits alone"),
     ("top", "pool Acc more;", "a pool says how many objects it has: `pool Acc more[1];`"),
     ("body", "lock (a.l); n = 1;", "the compiler takes the locks"),

@@ -86,6 +86,7 @@ try tests/ends_told.py "$program"
 try tests/outcomes.py "$program" --count 40
 try tests/sources.py "$program"
 try tests/runs.py "$program" --times 5 --transfers 200
+try tests/whole_class.py "$program" --times 50 --compiled 10
 tests/rows.py --write "$room"
 try tests/failing.py --program "$program" --commands run --every 7 \
     "$room"/{lost_update,transfer,null_reference,countdown,shared_owner}.al

@@ -506,7 +506,7 @@ def programs_of(arguments):
         yield f"hard/{name}", text.encode(), list(WAYS)
     ways = [way for way in WAYS if way != FIRST]
     for seed in range(arguments.seed, arguments.seed + arguments.count):
-        text = "\n".join(drawn(seed)).encode("latin-1")
+        text = "\n".join(drawn(seed, lists=seed % 2 == 1)).encode("latin-1")
         yield f"seed-{seed}", text, [FIRST, ways[seed % len(ways)]]
 
 

@@ -3,7 +3,7 @@
 # stands beside it, through `order`, `explain` and `outcomes` where NAME.order, NAME.explained and NAME.outcomes do, and through
 # `simulate` with the steps of NAME.steps where this stands beside it, and with these through `trace` where NAME.trace does, and
 # compares what they write with the files kept beside it, NAME.out, NAME.check, NAME.listing, NAME.order, NAME.explained,
-# NAME.outcomes, NAME.simulation and NAME.trace. Where NAME.refused stands beside it, all have to refuse it with that line;
+# NAME.outcomes, NAME.simulation and NAME.trace. `outcomes` distinguishes ends by the cells that NAME.cells names. Where NAME.refused stands beside it, all have to refuse it with that line;
 # `order` writes NAME.order then too, since these programs have a cycle of lock classes. Its
 # argument is the program to run, by default ./autolock at the top.
 set -u
@@ -17,10 +17,11 @@ cd "$top/examples" || exit 1
 failed=0
 count=0
 
-# A command, an example's name, the status, the files of what stands on standard output and on standard
+# A command with its options, an example's name, the status, the files of what stands on standard output and on standard
 # error, and, of `simulate` and `trace`, the steps file.
 judge() {
-    "$program" "$1" "$2.al" ${6:+"$6"} >"$work/out" 2>"$work/err" </dev/null
+    # shellcheck disable=SC2086
+    "$program" $1 "$2.al" ${6:+"$6"} >"$work/out" 2>"$work/err" </dev/null
     status=$?
     if [ "$status" = "$3" ] && cmp -s "$4" "$work/out" && cmp -s "$5" "$work/err"; then
         echo "ok $1 $2"
@@ -48,7 +49,9 @@ for source in *.al; do
         [ ! -e "$name.listing" ] || judge listing "$name" 0 "$name.listing" /dev/null
         [ ! -e "$name.order" ] || judge order "$name" 0 "$name.order" /dev/null
         [ ! -e "$name.explained" ] || judge explain "$name" 0 "$name.explained" /dev/null
-        [ ! -e "$name.outcomes" ] || judge outcomes "$name" 0 "$name.outcomes" /dev/null
+        cells=
+        [ ! -e "$name.cells" ] || cells=" --cells $(cat "$name.cells")"
+        [ ! -e "$name.outcomes" ] || judge "outcomes$cells" "$name" 0 "$name.outcomes" /dev/null
         [ ! -e "$name.steps" ] || judge simulate "$name" 0 "$name.simulation" /dev/null "$name.steps"
         [ ! -e "$name.trace" ] || judge trace "$name" 0 "$name.trace" /dev/null "$name.steps"
     fi

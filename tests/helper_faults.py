@@ -241,7 +241,7 @@ WAYS = {
 def broken(seed, only):
     """The text of a broken program."""
     chance = random.Random(f"{seed} broken")
-    words = [word for declaration in drawn(seed) for word, _ in tokens_of(declaration)]
+    words = [word for declaration in drawn(seed, lists=seed % 2 == 1) for word, _ in tokens_of(declaration)]
     names = []
     for _ in range(200):
         way = only or chance.choices(list(WAYS), list(WAYS.values()))[0]

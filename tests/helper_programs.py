@@ -3,7 +3,8 @@
 `drawn(seed)` are the declarations of one. Its helpers call each other up to 8 deep and no circle closes. In most programs
 a field under the lock of an object is reached only by parameters that are given stable paths, by a `let` of them, by a
 `let` at the start of a section, or by `where`, so that no lock class comes before itself; in the others, the wild ones,
-now and then by any `let`, which may make a cycle, or by anything, which may be an unstable base.
+now and then by any `let`, which may make a cycle, or by anything, which may be an unstable base. With `lists` the sections
+take classes whole, and then any of these are accepted more often.
 """
 
 import random
@@ -334,8 +335,16 @@ def thread(world, name, sections):
     return f"thread {name} {{ {' '.join(calls)} }}"
 
 
-def drawn(seed):
-    """The texts of the declarations of a program."""
+def with_classes(chance, text):
+    """A section that lists classes, mostly."""
+    listed = [name for name in ("N.l", "O.l") if chance.random() < 0.6]
+    chance.shuffle(listed)
+    head, brace, body = text.partition(" {")
+    return f"{head} lock({', '.join(listed)}){brace}{body}" if listed else text
+
+
+def drawn(seed, lists=False):
+    """The texts of the declarations of a program. If it lists classes, it is the same program but for the heads of sections."""
     chance = random.Random(seed)
     world = World(chance)
     texts, helpers, sections = world.texts, [], []
@@ -345,7 +354,7 @@ def drawn(seed):
         helpers.append(helper)
     for number in range(chance.randint(1, 4)):
         text, section = function(world, "atomic", f"f{number}", helpers)
-        texts.append(text)
+        texts.append(with_classes(random.Random(f"{seed} {number}"), text) if lists else text)
         sections.append(section)
     texts += [thread(world, f"t{number}", sections) for number in range(chance.randint(1, 3))]
     if chance.random() < 0.5:

@@ -177,7 +177,7 @@ def try_one(part):
         pair = None
         try:
             if is_drawn:
-                text = laid_out(what, [word for declaration in drawn(what) for word, _ in tokens_of(declaration)])
+                text = laid_out(what, [word for declaration in drawn(what, lists=what % 2 == 1) for word, _ in tokens_of(declaration)])
             else:
                 text = pathlib.Path(what).read_bytes().decode("latin-1")
             if is_drawn and keep:

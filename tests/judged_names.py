@@ -138,7 +138,23 @@ class Names:
             if function.kind == "atomic" and number == MOST_PARAMETERS:
                 self.tell(name, "E15")
         self.result = self.kind(function.result) if function.result else None
+        self.classes(function.listed)
         self.block(function.body)
+
+    def classes(self, listed):
+        """The lock classes that a head lists."""
+        earlier = set()
+        for structure, lock in listed:
+            names = self.word(structure), self.word(lock)
+            if names in earlier:
+                self.tell(structure, "E05")
+            earlier.add(names)
+            type_ = self.kind((f"ref {names[0]}", structure))
+            member = self.members[type_].get(names[1]) if type_ else None
+            if type_ and not member:
+                self.tell(lock, "E06")
+            elif type_ and member.kind != "lock":
+                self.tell(lock, "E07")
 
     def declare(self, number, type_, kind):
         name = self.word(number)

@@ -164,7 +164,21 @@ class Parser:
         result = self.took(":")
         if result:
             self.type()
+        self.classes()
         return parameters, result, self.block()
+
+    def classes(self):
+        """The lock classes that a head lists: what a section does is the same with and without them."""
+        if not self.took("lock"):
+            return
+        self.take("(")
+        while True:
+            self.take()
+            self.take(".")
+            self.take()
+            if self.took(")"):
+                return
+            self.take(",")
 
     def block(self):
         self.take("{")

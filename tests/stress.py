@@ -74,7 +74,7 @@ def programs_of(told):
     for file in files:
         yield file, pathlib.Path(file).read_bytes()
     for seed in range(told.seed, told.seed + (0 if told.files else told.count)):
-        yield f"seed-{seed}", "\n".join(drawn(seed)).encode("latin-1")
+        yield f"seed-{seed}", "\n".join(drawn(seed, lists=seed % 2 == 1)).encode("latin-1")
 
 
 def main():

@@ -48,6 +48,14 @@ WARNED = [
     ("loop that assigns another field",
      "struct S { lock l; int a protected_by(l); int b protected_by(l); }\n"
      "atomic f(ref S s, ref S t) {\n  while (s.a > 0) { t.b = 0; }\n}\n", [(3, 3, STUCK)]),
+    ("class that nothing in the section needs",
+     "struct S { lock l; int v protected_by(l); }\nstruct T { lock m; int w protected_by(m); }\n"
+     "atomic f(ref S s) lock(T.m, S.l) {\n  print s.v;\n}\n",
+     [(3, 24, "T.m is listed here, and no access of the section needs it")]),
+    ("class that a section needs by a helper alone, and one that another section needs",
+     "struct S { lock l; int v protected_by(l); }\ncall h(ref S s) { s.v = 1; }\natomic f(ref S s) lock(S.l) { call h(s); }\n"
+     "atomic g(ref S s) lock(S.l) { print 1; }\natomic k(ref S s) { print s.v; }\n",
+     [(4, 24, "S.l is listed here, and no access of the section needs it")]),
     ("all kinds, in the order of the text",
      "thread t { }\nlock G;\natomic f(int k) {\n  let x: int = 1;\n  while (k == 0) { }\n}\ncall h() { }\n",
      [(2, 6, "G protects nothing"), (3, 8, "f is called by no thread"), (4, 7, "x is never used"), (5, 3, STUCK), (7, 6, "h is never called")]),

@@ -148,7 +148,7 @@ class Program:
         self.take("}")
 
     def function(self, kind, first):
-        made = types.SimpleNamespace(kind=kind, first=first, name=self.name(), parameters=[], result=None)
+        made = types.SimpleNamespace(kind=kind, first=first, name=self.name(), parameters=[], result=None, listed=[])
         self.take("(")
         while self.peek() != ")":
             if made.parameters:
@@ -158,8 +158,22 @@ class Program:
         if self.peek() == ":":
             self.take()
             made.result = self.type()
+        if kind == "atomic" and self.peek() == "lock":
+            made.listed = self.classes()
         made.body = self.block()
         made.end = self.next
+        return made
+
+    def classes(self):
+        """The lock classes that a head lists: for each the numbers of its two names."""
+        made = []
+        self.take("lock")
+        while not made or self.peek() == ",":
+            self.take("," if made else "(")
+            structure = self.name()
+            self.take(".")
+            made.append((structure, self.name()))
+        self.take(")")
         return made
 
     def block(self):

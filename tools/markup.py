@@ -51,6 +51,17 @@ def document(title, style, body):
     return "<!DOCTYPE html>\n" + element("html", element("head", head), "\n", element("body", "\n".join(body)), lang="en")
 
 
+def listed(tokens):
+    """Of the tokens of a list of classes in a head the names, by where they start, each with its class."""
+    found = {}
+    for at, token in enumerate(tokens[:-2]):
+        if token.text == ")":
+            break
+        if tokens[at + 1].text == ".":
+            found[token.start] = found[tokens[at + 2].start] = f"{token.text}.{tokens[at + 2].text}"
+    return found
+
+
 class Painter:
     """Colours the names of locks in a program's text, by their class."""
 
@@ -95,6 +106,8 @@ class Painter:
                 self.struct = texts[at + 1]
             elif self.depth == 0 and token.text in ("}", "atomic", "call", "thread"):
                 self.struct = None
+            elif token.text == "lock" and texts[at + 1] == "(":
+                found.update(listed(tokens[at + 2 :]))
             elif token.text == "lock" and at + 1 < len(tokens):
                 name = texts[at + 1]
                 found[tokens[at + 1].start] = f"{self.struct}.{name}" if self.depth and self.struct else name

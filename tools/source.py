@@ -100,10 +100,13 @@ class Declarations:
         return inner or (names[0] if len(names) == 1 and names[0] in self.locks else None)
 
     def class_of(self, path, section, line):
-        """The class of a lock path of a section, taken in a line: its root is a local there, or of a helper in this line."""
+        """The class of a lock path of a section, taken in a line: its root is a local there, or of a helper in this line,
+        or the path is a whole class, and its root a struct."""
         root, *names = path.split(".")
         if not names:
             return root if root in self.locks else None
+        if root in self.members:
+            return path
         here = self.routine_at(line)
         rooms = [it for it in self.routines if it.name == section] + [here] * (here is not None) + self.routines
         structs = (room.structs[root] for room in rooms if root in room.structs)
@@ -126,7 +129,7 @@ def declared(source):
             continue
         elif word == "}":
             struct = None
-        elif word == "lock":
+        elif word == "lock" and name != "(":
             told.locks.append(name)
         elif word == "struct":
             struct = name

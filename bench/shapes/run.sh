@@ -1,7 +1,8 @@
 #!/usr/bin/env bash
 # Times `check` of texts of shapes that were slow once, and `outcomes` of such programs, each beside a plain one of its size,
 # and prints for each the least of several runs, process and all, and the most memory that one held. Of those with many
-# pairs of lock classes it times `order` and `explain` too, which are to take at most twice the time of `check`.
+# pairs of lock classes it times `order` and `explain` too, which are to take at most twice the time of `check`. Sections that
+# take a whole class are run beside calls that take its locks one by one.
 #
 #     bench/shapes/run.sh BIN [ROUNDS]
 set -euo pipefail
@@ -131,6 +132,21 @@ chains = [sorted({(7 * number + stride * k) % 61 for k in range(9)}) for number,
 write("ordered_in_60_sections", chained(chains))
 write("ordered_behind_loops_60_deep", chained([list(range(56))], nest))
 write("cycle_behind_loops_60_deep", chained([list(range(56)), [55, 0]], nest))
+
+
+def of_a_class(members, whole):
+    """One thread that sums all members of a pool: by a section that lists their class, or by a call for each."""
+    head = f"struct Acc {{ lock l; int bal protected_by(l); }}\npool Acc acc[{members}];\n"
+    if whole:
+        body = f"var i: int = 0; var s: int = 0; while (i < {members}) {{ let a: ref Acc = acc[i]; s = s + a.bal; i = i + 1; }} return s;"
+        return head + f"atomic total() : int lock(Acc.l) {{ {body} }}\nthread t {{ repeat 100 {{ total(); }} }}\n"
+    calls = " ".join(f"one(acc[{i}]);" for i in range(members))
+    return head + f"atomic one(ref Acc a) : int {{ return a.bal; }}\nthread t {{ repeat 100 {{ {calls} }} }}\n"
+
+
+for members in (10, 100, 1000):
+    write(f"class_of_{members}_whole", of_a_class(members, True))
+    write(f"class_of_{members}_one_by_one", of_a_class(members, False))
 for name, values in (("signs", (1, -1)), ("numbers", (1, 2)), ("powers", (1 << 32, 1 << 40)), ("halves", (-1 << 62, 1 << 62))):
     (top / f"outcomes_{name}.al").write_text(written(values, 9))
 PYTHON
@@ -139,6 +155,7 @@ for text in $(ls -v "$texts"/*.al); do
   case $(basename "$text") in
     outcomes_*) commands=("outcomes --count 1000000") ;;
     ordered_*) commands=(check order explain) ;;
+    class_of_*) commands=(run) ;;
   esac
   for command in "${commands[@]}"; do
     printf '%-35s %-8s ' "$(basename "$text" .al)" "${command%% *}"

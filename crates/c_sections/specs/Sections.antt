@@ -10,12 +10,15 @@ use Rattle.core_lang.specs.declared.value.ValueType.{ValueType}
 use Rattle.core_lang.specs.declared.value.ValueType.TheVariants.{Integer, Reference}
 use Rattle.locks.specs.LockPaths.{LockPath, lock_paths}
 use Rattle.locks.specs.Texts.{struct_name}
+use Rattle.locks.specs.declared.path.Root.{Root}
+use Rattle.locks.specs.declared.path.Root.TheVariants.{GlobalLock, WholeClass, Local as AtLocal}
+use Rattle.code.specs.Listing.{text_at}
 use Rattle.code.specs.declared.instr.Instr.{Instr}
 use Rattle.code.specs.Lowering.{section_code}
 use Rattle.c_language.specs.declared.statement.Temporary.{Temporary}
 use Rattle.c_statements.specs.Names.{named, own, type_text, zero_text, local_text, temporary_text}
 use Rattle.c_statements.specs.Statements.{line}
-use Rattle.c_statements.specs.Acquires.{numbered, downward, held}
+use Rattle.c_statements.specs.Acquires.{numbered, downward, held, class_loops}
 use Rattle.c_sections.specs.Instructions.{where_true, prints, temporaries, body_text}
 
 -- ---- parameters
@@ -225,9 +228,25 @@ module _ (prefix : List ℕ) (program : Typed) where
 
 -- ---- the end
 
--- the release of the lock of path k, if it is held
-abbrev pub unlock_line : ℕ → List ℕ
-unlock_line k = line (codes "if (" ++ held k ++ codes " != NULL) AL_UNLOCK(" ++ held k ++ codes ");")
+-- the release of the lock of path k
+abbrev pub release_one : ℕ → List ℕ
+release_one k = codes "AL_UNLOCK(" ++ held k ++ codes ");"
+
+-- the release of that lock, or of each lock of the path's class, by its root
+abbrev pub release_text : Typed → ℕ → ℕ → Root → List ℕ
+release_text program k class GlobalLock = release_one k
+release_text program k class (WholeClass s) =
+    codes "{" ++ class_loops program (codes "AL_UNLOCK") k class s ++ codes " }"
+release_text program k class (AtLocal n) = release_one k
+
+-- the release of what path k holds, if it holds a lock
+abbrev pub unlock_of : Typed → ℕ → LockPath → List ℕ
+unlock_of program k path =
+    line (codes "if (" ++ held k ++ codes " != NULL) " ++ release_text program k path.class path.root)
+
+-- that text, for the path of this number
+abbrev pub unlock_line : Typed → List LockPath → ℕ → List ℕ
+unlock_line program paths k = text_at (unlock_of program k) paths k
 
 -- the caller gets the number of prints, if the section prints
 abbrev pub count_line : Bool → List ℕ
@@ -244,9 +263,10 @@ return_text = codes "  return result;\nbegin:\n"
 
 -- the end of a call: its entry is added to the history; then every lock is released, the last first. The end precedes
 -- the instructions, so that a C compiler knows the label of each trap before it comes to the jump
-abbrev pub end_text : Section → Bool → ℕ → List ℕ
-end_text section prints count =
-    codes "  goto begin;\nend:\n" ++ ended_text section prints ++ downward unlock_line count ++ count_line prints
+abbrev pub end_text : Typed → Section → Bool → List LockPath → List ℕ
+end_text program section prints paths =
+    codes "  goto begin;\nend:\n" ++ ended_text section prints ++ downward (unlock_line program paths) (length paths)
+    ++ count_line prints
     ++ line (codes "result.trap = trap;") ++ give_line section.result_type ++ return_text
 
 -- ---- a section
@@ -262,7 +282,7 @@ front_text prefix program section code count =
 abbrev pub text_of : List ℕ → Typed → Section → List (List ℕ) → List Instr → List LockPath → Option (ℕ → List ℕ) → List ℕ
 text_of prefix program section lists code paths mark =
     front_text prefix program section code (length paths)
-    ++ end_text section (prints code) (length paths)
+    ++ end_text program section (prints code) paths
     ++ checks prefix program section
     ++ body_text program section lists paths mark code
     ++ codes "}\n"

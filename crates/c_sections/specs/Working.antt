@@ -2,3 +2,4 @@ pub mod Codes
 pub mod Marked
 pub mod Bodies
 pub mod Prototypes
+pub mod Releases

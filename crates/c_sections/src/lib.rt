@@ -13,6 +13,7 @@ mod groups;
 mod instructions;
 pub mod marks;
 pub mod names;
+mod releases;
 pub mod sections;
 mod targets;
 mod temporaries;

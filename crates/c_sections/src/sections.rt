@@ -7,7 +7,7 @@ ghost use Rattle.code.specs.Lowering.{section_code};
 ghost use Rattle.code.specs.Working.Asked.{lists_of};
 ghost use Rattle.locks.specs.LockPaths.{lock_path_of, lock_paths};
 ghost use Rattle.locks.specs.Texts.{AddsText};
-ghost use Rattle.c_statements.specs.Acquires.{numbered, downward};
+ghost use Rattle.c_statements.specs.Acquires.{numbered};
 ghost use Rattle.c_sections.specs.Instructions.{is_print};
 ghost use Rattle.c_sections.specs.Instructions as instruction;
 ghost use Rattle.c_sections.specs.Sections as text;
@@ -17,6 +17,7 @@ ghost use Rattle.c_sections.specs.Working.Marked.{marks_of};
 use crate::instructions::InstructionLines;
 use crate::marks::LineMarks;
 use crate::names::Writer;
+use crate::releases::push_unlocks;
 use crate::temporaries::temporaries_of;
 use c_language::group_laws::sections_have_plans;
 use c_language::statement::Temporary;
@@ -25,6 +26,7 @@ use code::Listed;
 use code::instr::Instr;
 use core_lang::tree::{Local, Section};
 use core_lang::value::ValueType;
+use locks::path::LockPath;
 use source::memory::NoMemory;
 use std::alloc::{AllocError, Global};
 
@@ -146,23 +148,6 @@ fn push_uses(out: &mut String, section: &Section, count: usize) -> Result<(), Al
     push_used_locks(out, count)
 }
 
-/// Appends the release of a lock, if it is held.
-fn push_unlock(out: &mut String, number: usize) -> Result<(), AllocError>
-    ensures { OnOk result (AddsText (text.unlock_line number) out.old out.new) }
-{
-    write!(out, "  if (h[{number}] != NULL) AL_UNLOCK(h[{number}]);\n")
-}
-
-/// Appends the release of every lock, the last first.
-fn push_unlocks(out: &mut String, count: usize) -> Result<(), AllocError>
-    ensures { OnOk result (AddsText (downward text.unlock_line count) out.old out.new) }
-{
-    for number in (0..count).rev() {
-        push_unlock(out, number)?;
-    }
-    Ok(())
-}
-
 /// Appends that the caller gets the number of prints.
 fn push_count_line(out: &mut String, prints: bool) -> Result<(), AllocError>
     ensures { OnOk result (AddsText (text.count_line prints) out.old out.new) }
@@ -251,24 +236,6 @@ fn push_ended(out: &mut String, section: &Section, prints: bool) -> Result<(), A
     push_value_word(out, section.result_type)?;
     push_printed(out, prints)?;
     out.push_str(");\n#endif\n")
-}
-
-/// Appends the end of a section with this number of lock paths.
-fn push_end(
-    out: &mut String,
-    section: &Section,
-    prints: bool,
-    count: usize,
-) -> Result<(), AllocError>
-    ensures { OnOk result (AddsText (text.end_text section.now prints count) out.old out.new) }
-{
-    out.push_str("  goto begin;\nend:\n")?;
-    push_ended(out, section, prints)?;
-    push_unlocks(out, count)?;
-    push_count_line(out, prints)?;
-    out.push_str("  result.trap = trap;\n")?;
-    push_give_line(out, section.result_type)?;
-    out.push_str("  return result;\nbegin:\n")
 }
 
 /// Appends the parameter for the prints, after the others.
@@ -595,6 +562,26 @@ impl Writer<'_> {
         Ok(())
     }
 
+    // Appends the end of a section with these lock paths.
+    fn push_end(
+        &self,
+        out: &mut String,
+        section: &Section,
+        prints: bool,
+        paths: &[LockPath],
+    ) -> Result<(), AllocError>
+        ensures { OnOk result (AddsText (text.end_text self.now.program.now section.now prints
+            (map lock_path_of paths.now)) out.old out.new) }
+    {
+        out.push_str("  goto begin;\nend:\n")?;
+        push_ended(out, section, prints)?;
+        push_unlocks(out, self.program, paths)?;
+        push_count_line(out, prints)?;
+        out.push_str("  result.trap = trap;\n")?;
+        push_give_line(out, section.result_type)?;
+        out.push_str("  return result;\nbegin:\n")
+    }
+
     /// Appends a section. With marks, its C is marked with those lines of the program's file.
     ///
     /// # Errors
@@ -618,7 +605,7 @@ impl Writer<'_> {
         let lines = InstructionLines::new(alloc, self.program, listed)?;
         self.push_front(alloc, out, listed)?;
         let printed = prints(&listed.code.instructions);
-        push_end(out, listed.section, printed, listed.paths.len())?;
+        self.push_end(out, listed.section, printed, listed.paths)?;
         self.push_checks(out, listed.section)?;
         lines.push(alloc, out, marks)?;
         out.push_str("}\n")?;

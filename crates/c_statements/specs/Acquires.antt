@@ -3,18 +3,19 @@
 -- a run asks for.
 use Rattle.std.specs.Prelude.{ℕ, zero, suc, ◌+◌, ◌-◌, ◌==◌, Bool, false, not, if◌then◌else◌, nat_le}
 use Rattle.std.specs.Prelude.{List, [], ◌∷◌, ◌++◌}
-use Rattle.std.specs.Prelude.{length, slice_get, Option, Some, None, codes}
+use Rattle.std.specs.Prelude.{length, slice_get, Option, Some, None, codes, string_bytes}
 use Rattle.std.specs.List.{flat_map, range_with_len}
 use Rattle.std.specs.Option.{option_map_or}
 use Rattle.std.specs.Fmt.{decimal}
 use Rattle.core_lang.specs.Typing.{final_target}
+use Rattle.core_lang.specs.declared.shape.Pool.{Pool}
 use Rattle.core_lang.specs.declared.tree.Local.{Local}
 use Rattle.core_lang.specs.declared.tree.Section.{Section}
 use Rattle.core_lang.specs.declared.typed.Typed.{Typed}
 use Rattle.locks.specs.LockPaths.{LockPath}
 use Rattle.locks.specs.Texts.{last_name, path_text, struct_if_reference}
 use Rattle.locks.specs.declared.path.Root.{Root}
-use Rattle.locks.specs.declared.path.Root.TheVariants.{GlobalLock, Local as AtLocal}
+use Rattle.locks.specs.declared.path.Root.TheVariants.{GlobalLock, WholeClass, Local as AtLocal}
 use Rattle.code.specs.Listing.{text_at}
 use Rattle.c_language.specs.Groups.{member}
 use Rattle.c_statements.specs.Names.{lock_member, local_text, variable_text, final_text}
@@ -142,11 +143,31 @@ lock_of_local program path k local =
     codes "&" ++ local_text k local ++ finals_text program (struct_if_reference local.value_type) path.finals
     ++ codes "->l_" ++ last_name program path.class
 
+-- ---- all locks of a class
+
+-- the loop over a pool's members: path k takes the address of each member's lock of the class, and the macro is called
+-- with it
+abbrev pub pool_loop : Typed → List ℕ → ℕ → ℕ → Pool → List ℕ
+pool_loop program macro k class pool =
+    codes " for (int64_t i = 0; i < " ++ decimal pool.length ++ codes "; i++) { " ++ held k
+    ++ codes " = &s->p_" ++ string_bytes pool.name ++ codes "[i].l_" ++ last_name program class
+    ++ codes "; " ++ macro ++ codes "(" ++ held k ++ codes "); }"
+
+-- that loop, if the pool's members are of this struct
+abbrev pub pool_loop_if : Typed → List ℕ → ℕ → ℕ → ℕ → Pool → List ℕ
+pool_loop_if program macro k class structure pool =
+    if pool.structure == structure then pool_loop program macro k class pool else []
+
+-- the loops over all members of a struct, pool after pool
+abbrev pub class_loops : Typed → List ℕ → ℕ → ℕ → ℕ → List ℕ
+class_loops program macro k class structure = flat_map (pool_loop_if program macro k class structure) program.shape.pools.items
+
 -- for a program, a section of it, and the section's lock paths
 module _ (program : Typed) (section : Section) (paths : List LockPath) where
-  -- the address of the lock of a path with this root
+  -- the address of the lock of a path with this root; a whole class has none
   abbrev pub address_from : Root → LockPath → List ℕ
   address_from GlobalLock path = codes "&" ++ lock_member program path.class ++ codes ".lock"
+  address_from (WholeClass s) path = []
   address_from (AtLocal k) path = text_at (lock_of_local program path k) section.locals.items k
 
   -- the address of the lock that a path names
@@ -158,17 +179,24 @@ module _ (program : Typed) (section : Section) (paths : List LockPath) where
   -- the test that the root is not null; a null root names no lock
   abbrev pub root_test : Root → List ℕ
   root_test GlobalLock = []
+  root_test (WholeClass s) = []
   root_test (AtLocal k) = codes " && " ++ variable_text section k ++ codes " != NULL"
 
   -- path k takes the address of its lock, and acquires it
   abbrev pub lock_one_text : ℕ → LockPath → List ℕ
-  lock_one_text k path = held k ++ codes " = " ++ address_text path ++ codes "; AL_LOCK(" ++ held k ++ codes ");"
+  lock_one_text k path = codes " " ++ held k ++ codes " = " ++ address_text path ++ codes "; AL_LOCK(" ++ held k ++ codes ");"
 
-  -- path k takes the address of its lock and acquires it, if it holds none and its root is not null
+  -- path k, which has this root, does so with its lock, or with each lock of its class
+  abbrev pub locks_text : Root → ℕ → LockPath → List ℕ
+  locks_text GlobalLock k path = lock_one_text k path
+  locks_text (WholeClass s) k path = class_loops program (codes "AL_LOCK") k path.class s
+  locks_text (AtLocal n) k path = lock_one_text k path
+
+  -- path k does so, if it holds none and its root is not null
   abbrev pub alone_of : ℕ → LockPath → List ℕ
   alone_of k path =
-      line (codes "if (AL_RARE(" ++ held k ++ codes " == NULL" ++ root_test path.root ++ codes ")) { "
-      ++ lock_one_text k path ++ codes " }")
+      line (codes "if (AL_RARE(" ++ held k ++ codes " == NULL" ++ root_test path.root ++ codes ")) {"
+      ++ locks_text path.root k path ++ codes " }")
 
   -- that text, for the path of this number
   abbrev pub alone_text : ℕ → List ℕ
@@ -179,6 +207,7 @@ module _ (program : Typed) (section : Section) (paths : List LockPath) where
   -- the address, or NULL if the root is null
   abbrev pub or_null : Root → List ℕ → List ℕ
   or_null GlobalLock address = address
+  or_null (WholeClass s) address = address
   or_null (AtLocal k) address = variable_text section k ++ codes " != NULL ? " ++ address ++ codes " : NULL"
 
   -- the j-th path of a run asks for its lock

@@ -8,6 +8,7 @@ ghost use Rattle.c_language.specs.Groups.{member};
 ghost use Rattle.c_statements.specs.Names.{final_text};
 ghost use Rattle.c_statements.specs.Acquires as text;
 
+use crate::class_loops::ClassLoops;
 use crate::names::push_local;
 use crate::operands::OperandScope;
 use c_language::statement::StructMember;
@@ -184,7 +185,7 @@ pub struct Acquires<'a> {
 }
 
 impl Acquires<'_> {
-    ghost use Rattle.c_statements.specs.Working.Taken.{lock_of, address_of, tested_of, lock_one_of, alone_of, or_null_of};
+    ghost use Rattle.c_statements.specs.Working.Taken.{lock_of, address_of, tested_of, lock_one_of, locks_of, alone_of, or_null_of};
     ghost use Rattle.c_statements.specs.Working.Taken.{ask_of, asked_of, few_of, many_of, among_of, run_of, run_at, take_of};
     ghost use Rattle.c_statements.specs.Working.Taken.{Goes, paths_in, class_of, same_class_of, alone_at, ask_at};
     ghost use Rattle.c_statements.specs.Working.Taken.{path_at, paths_of, acquire_of};
@@ -253,6 +254,7 @@ impl Acquires<'_> {
                 self.scope.push_lock_member(out, path.class)?;
                 out.push_str(".lock")
             }
+            Root::WholeClass(_) => Ok(()),
             Root::Local(number) => match self.scope.section.locals.get(number) {
                 Some(local) => self.push_lock_of(out, path, number, local),
                 None => Ok(()),
@@ -265,7 +267,7 @@ impl Acquires<'_> {
         ensures { OnOk result (AddsText (tested_of self.now root) out.old out.new) }
     {
         match root {
-            Root::GlobalLock => Ok(()),
+            Root::GlobalLock | Root::WholeClass(_) => Ok(()),
             Root::Local(number) => {
                 out.push_str(" && ")?;
                 self.scope.push_variable(out, number)?;
@@ -274,16 +276,39 @@ impl Acquires<'_> {
         }
     }
 
-    // Appends that a path acquires its lock.
-    fn push_take(&self, out: &mut String, number: usize, path: &LockPath) -> Result<(), AllocError>
+    // Appends that a path acquires the one lock that it names.
+    fn push_take_one(
+        &self,
+        out: &mut String,
+        number: usize,
+        path: &LockPath,
+    ) -> Result<(), AllocError>
         ensures { OnOk result (AddsText (lock_one_of self.now number path.now) out.old out.new) }
     {
-        write!(out, "h[{number}] = ")?;
+        write!(out, " h[{number}] = ")?;
         self.push_address(out, path)?;
         write!(out, "; AL_LOCK(h[{number}]);")
     }
 
-    // Appends that the only path of its class acquires its lock.
+    // Appends that a path acquires its lock, or each lock of its class.
+    fn push_take(&self, out: &mut String, number: usize, path: &LockPath) -> Result<(), AllocError>
+        ensures { OnOk result (AddsText (locks_of self.now number path.now) out.old out.new) }
+    {
+        match path.root {
+            Root::WholeClass(structure) => {
+                let loops = ClassLoops {
+                    program: self.scope.program,
+                    class: path.class,
+                    structure,
+                    number,
+                };
+                loops.push(out, "AL_LOCK")
+            }
+            Root::GlobalLock | Root::Local(_) => self.push_take_one(out, number, path),
+        }
+    }
+
+    // Appends that the only path of its class acquires its lock, or each lock of its class.
     fn push_alone_of(
         &self,
         out: &mut String,
@@ -294,7 +319,7 @@ impl Acquires<'_> {
     {
         write!(out, "  if (AL_RARE(h[{number}] == NULL")?;
         self.push_root_test(out, path.root)?;
-        out.push_str(")) { ")?;
+        out.push_str(")) {")?;
         self.push_take(out, number, path)?;
         out.push_str(" }\n")
     }
@@ -314,7 +339,7 @@ impl Acquires<'_> {
         ensures { OnOk result (AddsText (or_null_of self.now path.now) out.old out.new) }
     {
         match path.root {
-            Root::GlobalLock => self.push_address(out, path),
+            Root::GlobalLock | Root::WholeClass(_) => self.push_address(out, path),
             Root::Local(number) => {
                 self.scope.push_variable(out, number)?;
                 out.push_str(" != NULL ? ")?;

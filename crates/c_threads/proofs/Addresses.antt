@@ -2,7 +2,7 @@
 use Rattle.std.proofs.Common.{◌≡◌, ℕ, zero, suc, ◌+◌, List, [], ◌∷◌, ◌++◌, Option, Some, None, ◌⊎◌, inl, inr, refl}
 use Rattle.std.proofs.Common.{sym, ap, ◌∙◌, subst}
 use Rattle.std.specs.Prelude.{slice_get}
-use Rattle.std.specs.Option.{option_map}
+use Rattle.std.specs.Option.{option_map, option_map_or}
 use Rattle.std.specs.List.{Contains}
 use Rattle.std.proofs.lemmas.Option.{none-some, same_Some}
 use Rattle.core_lang.specs.declared.value.Value.{Value}
@@ -34,25 +34,31 @@ use Rattle.flow.specs.Theory.Each.{each_there}
 use Rattle.flow.specs.Theory.PointTypes.{IsTypedPoint, points_typed}
 use Rattle.locks.specs.declared.lock.Lock.{Lock}
 use Rattle.locks.specs.declared.path.Root.{Root}
-use Rattle.locks.specs.declared.path.Root.TheVariants.{GlobalLock, Local as AtLocal}
+use Rattle.locks.specs.declared.path.Root.TheVariants.{GlobalLock, WholeClass, Local as AtLocal}
 use Rattle.locks.specs.Accesses.{Target, global, element, field, accesses_at}
 use Rattle.locks.specs.Faults.{HasSection}
 use Rattle.locks.specs.Locks.{final_of, led_to, protection_of}
 use Rattle.locks.specs.LockPaths.{LockPath, StablePath, Binding, all_final, stable, stable_value, OwnerPath, owner_of}
 use Rattle.locks.specs.LockPaths.{extended, binding_at, bindings, all_replaced, global_path, lock_paths}
-use Rattle.locks.specs.LockPaths.{class_if_global, target_path, lock_path, named, lock_from, lock_named, Uses}
+use Rattle.locks.specs.LockPaths.{class_if_global, target_path, lock_path, named, object_at, one_or_none, locks_from, locks_named, Uses}
 use Rattle.locks.specs.Working.Laws.{UsedAreListed}
 use Rattle.locks.proofs.Lists.{from_filter_map, each_at}
 use Rattle.locks.proofs.Normal.{if_none, stable_parts, Replaces, other, by_owner, no_path, by_path, past_parts}
 use Rattle.locks.proofs.Normal.{replaces}
-use Rattle.locks.proofs.InScope.{IsFieldPath, of_global, of_object, field_path}
+use Rattle.locks.proofs.InScope.{IsFieldPath, of_global, of_whole, of_object, field_path}
 use Rattle.locks.proofs.TypedAccesses.{LeadsFrom, IsTypedTarget, IsTyped, accesses_typed}
 use Rattle.locks.proofs.Finals.{final_there}
-use Rattle.worlds.specs.Asking.{lock_numbered}
+use Rattle.worlds.specs.Asking.{locks_numbered}
 use Rattle.code.specs.Memory.{load_held, store_held}
 use Rattle.c_language.specs.Meaning.{pointer_in}
 use Rattle.c_language.specs.Meaning.{final_target as c_target}
+use Rattle.c_threads.proofs.ClassRuns.{first_of}
+use Rattle.c_threads.proofs.Whole.{IsWhole}
 use Rattle.c_threads.specs.Locking.{followed, address_from, address_by, address, address_at}
+
+first_is : (o : Option Lock) → first_of (one_or_none o) ≡ o
+first_is None = refl
+first_is (Some l) = refl
 
 -- ---- where a stable path leads
 
@@ -245,6 +251,7 @@ module _ (program : Typed) (section : Section) where
     -- a root, and finals that lead on from it
     abbrev LeadsBy : Root → List ℕ → Type 0
     LeadsBy GlobalLock finals = Unit {0}
+    LeadsBy (WholeClass s) finals = Unit {0}
     LeadsBy (AtLocal r) finals = (s : ℕ) × Leads (record { root = r; finals = finals }) s
 
     abbrev Led : LockPath → Type 0
@@ -254,6 +261,7 @@ module _ (program : Typed) (section : Section) where
         slice_get program.sections.items k ≡ Some section → protection_of program s f ≡ Some p →
         LeadsFrom program types local base (Reference s) → IsFieldPath program section local base p path → Led path
     of_field k local s f base p path here protects from (of_global c is single e) = subst Led (sym e) tt
+    of_field k local s f base p path here protects from (of_whole t l is listed e) = subst Led (sym e) tt
     of_field k local s f base p path here protects from (of_object to l q is stable_is e) =
         let first = of_base local base q s stable_is from in
         let whole = behind_protection q p s to l first (ends_at s f p (class.Field to l) protects is) in
@@ -325,21 +333,24 @@ module _ (program : Typed) (section : Section) where
           ∙ sym (ap (λ x. Some (option_map (made path.class) x)) r.2)
 
       by_root : (path : LockPath) (root : Root) → LeadsBy root path.finals →
-          address_by program.shape locals root path ≡ Some (lock_from root path.finals path.class program.shape locals)
-      by_root path GlobalLock led = refl
-      by_root path (AtLocal r) led =
+          (IsWhole root → ⊥) →
+          address_by program.shape locals root path ≡ Some (first_of (locks_from root path.finals path.class program.shape locals))
+      by_root path GlobalLock led not = refl
+      by_root path (WholeClass s) led not = absurd (not (s, refl))
+      by_root path (AtLocal r) led not =
           let v = typed_local types locals r (Reference led.1.from) have led.1.root in
           ap (λ o. lookup (pointer_in o) (address_from program.shape path)) v.1
           ∙ by_value path led.1.from led.0 v.0 v.2 led.1.leads
           ∙ sym (ap (λ (o : Option Value). Some (option_map (made path.class)
           (lookup o (λ w. lookup (named w) (λ n. led_to program.shape n path.finals))))) v.1)
+          ∙ ap (λ o. Some o) (sym (first_is (option_map (made path.class) (object_at program.shape locals r path.finals))))
 
       -- the same for each lock path of the section
       pub addressed : UsedAreListed → HasSection program section → (k : ℕ) (path : LockPath) →
-          slice_get (lock_paths program section) k ≡ Some path →
-          address_at program section locals k ≡ Some (lock_numbered program section locals k)
-      addressed listed has k path e =
+          slice_get (lock_paths program section) k ≡ Some path → (IsWhole path.root → ⊥) →
+          address_at program section locals k ≡ Some (first_of (locks_numbered program section locals k))
+      addressed listed has k path e not =
           let used = (listed program section path).0 (contains_at (lock_paths program section) k path e) in
           ap (λ (o : Option LockPath). lookup o (address program.shape locals)) e
-          ∙ by_root path path.root (led_used used.0 path has used.1)
-          ∙ sym (ap (λ (o : Option LockPath). Some (lookup o (λ (p : LockPath). lock_named p program.shape locals))) e)
+          ∙ by_root path path.root (led_used used.0 path has used.1) not
+          ∙ sym (ap (λ (o : Option LockPath). Some (first_of (option_map_or (λ (p : LockPath). locks_named p program.shape locals) o []))) e)

@@ -1,13 +1,15 @@
 -- Places of arrays, and the values that a loop over them finds and leaves there.
 --
--- How the laws of locks are proved: each loop of an acquire is one lemma about a list that is cut where the loop
--- stands, with the part before it reversed (here and in `proofs/Loops`): drops from the last to the first, insertions,
--- calls, notes. A run of one class therefore takes exactly the requested locks of that class (`proofs/ClassRuns`), and
--- runs of rising ranks take all of them (`proofs/Orders`, `proofs/Acquires`). The order of the placement makes the runs
--- of a list such runs (`proofs/LockRuns`). The address of a path is that of its lock, since its final references lead
--- by types (`proofs/Addresses`). A noted path keeps its lock: a point that binds its root, after one where the path is
--- listed, would make an edge that the ranks forbid (`proofs/Roots`). A section of `worlds` therefore carries its notes
--- from point to point as it carries its run (`proofs/Standing`).
+-- How the laws of locks are proved: each loop of an acquire is one lemma over a list cut where the loop stands, with
+-- the part before it reversed (here and in `proofs/Loops`): drops from the last to the first, insertions, calls, notes.
+-- A run of one class therefore comes to what is asked for of that class (`proofs/ClassRuns`), and runs of rising ranks
+-- together are all of it (`proofs/Orders`, `proofs/Acquires`). That the runs of a list are so is the order of the
+-- placement (`proofs/LockRuns`). A whole class is the only path of its class (`proofs/Alone`), its locks are taken in the
+-- order of the members, which is that in which they are asked for (`proofs/Members`), and its note stands for all of
+-- them (`proofs/Whole`). The address of a path is its lock since its final references lead by types
+-- (`proofs/Addresses`). A noted path keeps its lock: a point that binds its root, after one where the path is listed,
+-- would make an edge that the ranks forbid (`proofs/Roots`). A section of `worlds` therefore carries its notes from
+-- point to point as it carries its run (`proofs/Standing`).
 use Rattle.std.proofs.Common.{◌≡◌, ℕ, zero, suc, ◌+◌, List, [], ◌∷◌, ◌++◌, map, length, Option, Some, None}
 use Rattle.std.proofs.Common.{slice_get, set, refl, ap, ◌∙◌, arith}
 use Rattle.std.proofs.lemmas.Option.{none-some}
@@ -17,7 +19,7 @@ use Rattle.core_lang.specs.Theory.Items.{map_at, still_at}
 use Rattle.locks.specs.declared.lock.Lock.{Lock}
 use Rattle.c_threads.specs.Locking.{Pointer, Locking, m_at, set_m, for_each}
 
--- ---- a list put in front of another in reverse
+-- ---- what is in front, the last first, put in front of the rest again
 
 abbrev pub turned : {A : Type 0} → List A → List A → List A
 turned [] back = back
@@ -63,7 +65,7 @@ length_turned (x ∷ front) back = let e = length_turned front (x ∷ back) in o
 
 -- ---- an array of which the first places are set
 
--- an array whose first places hold `ps`, followed by the places `rest`
+-- what the first places hold, and the places after them
 abbrev pub filled : List Pointer → List (Option Pointer) → List (Option Pointer)
 filled ps rest = map (λ (p : Pointer). Some p) ps ++ rest
 
@@ -85,7 +87,7 @@ length_filled (p ∷ ps) rest = let e = length_filled ps rest in omega (arith, e
 
 -- ---- the variables, by what they hold
 
--- the variables, by h, the first places of m, the places after them, and the calls made so far
+-- h, the first places of m, the places after them, and the calls made so far
 abbrev pub holding : List Pointer → List Pointer → List (Option Pointer) → List Lock → Locking
 holding notes ps rest calls = record { notes = notes; asked = filled ps rest; calls = calls }
 
@@ -120,7 +122,7 @@ each_same f g same (i ∷ is) x =
     on (Some y) rest = rest y
     on None rest = refl
 
--- the places after `front` are read in turn
+-- what follows a place is read in turn
 pub read_behind : (notes front back : List Pointer) (rest : List (Option Pointer)) (calls : List Lock) →
     map (m_at (holding notes (turned front back) rest calls)) (range_with_len (length front) (length back))
     ≡ map (λ (p : Pointer). Some p) back

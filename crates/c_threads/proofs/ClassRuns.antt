@@ -1,27 +1,32 @@
 -- The state after a run of paths of one class.
 use Rattle.std.proofs.Common.{◌≡◌, ◌<◌, ◌≤◌, ℕ, suc, ◌+◌, ◌-◌, List, [], ◌∷◌, ◌++◌, map, length, Option}
 use Rattle.std.proofs.Common.{Some, None, false, slice_get, refl, sym, ap, ◌∙◌, subst, arith}
-use Rattle.std.proofs.Common.{if◌then◌else◌}
+use Rattle.std.proofs.Common.{if◌then◌else◌, set, zero, append_assoc}
 use Rattle.std.specs.List.{Contains, flat_map, range_with_len}
 use Rattle.std.proofs.lemmas.List.{append-nil}
 use Rattle.core_lang.specs.declared.value.Value.{Value}
 use Rattle.core_lang.specs.declared.tree.Section.{Section}
 use Rattle.core_lang.specs.declared.typed.Typed.{Typed}
 use Rattle.core_lang.specs.Typing.{lookup}
-use Rattle.core_lang.specs.Theory.Items.{none_at}
+use Rattle.core_lang.specs.Theory.Items.{none_at, in_first, in_rest}
 use Rattle.locks.specs.declared.lock.Lock.{Lock}
 use Rattle.locks.specs.Locks.{among}
 use Rattle.locks.specs.Theory.Order.{contains_among}
-use Rattle.worlds.specs.Asking.{lock_numbered}
+use Rattle.worlds.specs.Asking.{locks_numbered}
 use Rattle.c_threads.specs.Locking.{Pointer, Locking, LockStatement, Ask, Drop, Note, Exchange, Take, TakeAlone, OrderAll, TakeAll}
 use Rattle.c_threads.specs.Locking.{DropAll, up, down, in_turn, few, many, for_each, drop_lock, exchange, take_lock, order_all, take_all}
-use Rattle.c_threads.specs.Locking.{drop_all, take_unless, call, do_all, address_at}
+use Rattle.c_threads.specs.Locking.{drop_all, take_each, take_unless, call, do_all, address_at, addresses_at}
 use Rattle.c_threads.proofs.Arrays.{turned, holding}
 use Rattle.c_threads.proofs.Orders.{dropped, aimed, ordered, called, AreOf, of_aimed}
 use Rattle.c_threads.proofs.Loops.{equals_any, aims_are, few_drops, many_drops, orders, takes, noted, note_is, do_append}
 use Rattle.c_threads.proofs.Loops.{do_mapped, do_exchanges, past, asks, notings, kept_all, turned_back, sorted, sorted_all}
-use Rattle.c_threads.proofs.Loops.{length_aimed, length_ordered, length_back, of_turned}
+use Rattle.c_threads.proofs.Loops.{length_aimed, length_ordered, length_back, of_turned, length_put}
 use Rattle.c_threads.proofs.Noting.{not_among}
+
+-- the first lock, or NULL
+abbrev pub first_of : List Lock → Pointer
+first_of [] = None
+first_of (l ∷ ls) = Some l
 
 pub length_names : {A : Type 0} (f : ℕ → A) (ks : List ℕ) → length (map f ks) ≡ length ks
 length_names f [] = refl
@@ -55,7 +60,7 @@ taken_does notes rest calls ps n e =
 
 module _ (program : Typed) (section : Section) (locals : List Value) where
   abbrev name : ℕ → Pointer
-  name k = lock_numbered program section locals k
+  name k = first_of (locks_numbered program section locals k)
 
   abbrev pub names : List ℕ → List Pointer
   names ks = map name ks
@@ -186,7 +191,7 @@ module _ (program : Typed) (section : Section) (locals : List Value) where
     made p = record { notes = noted (k ∷ []) (p ∷ []) notes; asked = asked; calls = calls ++ called (ordered (p ∷ [])) }
 
     abbrev tested : Option Pointer → Option Locking
-    tested o = lookup o (λ noted. take_unless (address_at program section locals k) noted k alone)
+    tested o = lookup o (λ noted. take_unless (addresses_at program section locals k) noted k alone)
 
     -- the variables after the run, by what is noted and what the path names
     abbrev Left : Option Pointer → Pointer → Type 0
@@ -197,18 +202,18 @@ module _ (program : Typed) (section : Section) (locals : List Value) where
         ap (λ r. lookup r (go [])) e
         ∙ ap (λ c. Some (record { notes = notes; asked = asked; calls = c })) (sym (append-nil calls))
 
-    pub alone_does : address_at program section locals k ≡ Some (name k) → k < length notes →
+    pub alone_does : addresses_at program section locals k ≡ Some (name k ∷ []) → k < length notes →
         ((lock : Lock) → slice_get notes k ≡ Some (Some lock) → (name k ≡ Some lock) × Contains held lock) →
         ((lock : Lock) → name k ≡ Some lock → Contains held lock → slice_get notes k ≡ Some (Some lock)) →
         go (TakeAlone k ∷ []) alone ≡ Some (made (dropped held [] (name k)))
     alone_does address less fit there = found (slice_get notes k) refl where
       at_null : (p : Pointer) → name k ≡ p → slice_get notes k ≡ Some None → Left (Some None) p
       at_null None named e =
-          nothing (Some None) (ap (λ a. take_unless a None k alone) (address ∙ ap (λ q. Some q) named))
+          nothing (Some None) (ap (λ a. take_unless a None k alone) (address ∙ ap (λ q. Some (q ∷ [])) named))
       at_null (Some lock) named e =
           let new : among held lock ≡ false =
           not_among held lock (λ c. (let bad : Some None ≡ Some (Some lock) = sym e ∙ there lock named c in cc bad)) in
-          ap (λ a. lookup (take_unless a None k alone) (go [])) (address ∙ ap (λ q. Some q) named)
+          ap (λ a. lookup (take_unless a None k alone) (go [])) (address ∙ ap (λ q. Some (q ∷ [])) named)
           ∙ ap (λ r. lookup (lookup r (λ y. Some (call y (Some lock)))) (go [])) (note_is notes asked calls k (Some lock) less)
           ∙ ap (λ b. Some (made (if b then None else Some lock))) (sym new)
 
@@ -226,3 +231,35 @@ module _ (program : Typed) (section : Section) (locals : List Value) where
       found None e = absurd (none_there notes k less e)
       found (Some None) e = at_null (name k) refl e
       found (Some (Some lock)) e = at_lock lock e
+
+-- ---- a whole class
+
+-- the notes after path k has taken these locks in turn
+abbrev pub marked : ℕ → List Lock → List Pointer → List Pointer
+marked k [] notes = notes
+marked k (l ∷ ls) notes = marked k ls (set notes k (Some l))
+
+set_twice : {X : Type 0} (xs : List X) (i : ℕ) (x y : X) → set (set xs i x) i y ≡ set xs i y
+set_twice [] i x y = refl
+set_twice (z ∷ xs) zero x y = refl
+set_twice (z ∷ xs) (suc i) x y = ap (λ t. z ∷ t) (set_twice xs i x y)
+
+-- the last of them is noted
+pub last_marked : (k : ℕ) (l : Lock) (ls : List Lock) (notes : List Pointer) →
+    (last : Lock) × Contains (l ∷ ls) last × (marked k (l ∷ ls) notes ≡ set notes k (Some last))
+last_marked k l [] notes = (l, in_first l [], refl)
+last_marked k l (m ∷ ls) notes =
+    let r = last_marked k m ls (set notes k (Some l)) in
+    (r.0, in_rest l r.0 (m ∷ ls) r.1, r.2 ∙ set_twice notes k (Some l) (Some r.0))
+
+pub each_taken : (k : ℕ) (ls : List Lock) (notes : List Pointer) (asked : List (Option Pointer)) (calls : List Lock) →
+    k < length notes →
+    take_each k (map (λ (l : Lock). Some l) ls) (record { notes = notes; asked = asked; calls = calls })
+    ≡ Some (record { notes = marked k ls notes; asked = asked; calls = calls ++ ls })
+each_taken k [] notes asked calls less =
+    ap (λ c. Some (record { notes = notes; asked = asked; calls = c })) (sym (append-nil calls))
+each_taken k (l ∷ ls) notes asked calls less =
+    let many = length_put notes k (Some l) in
+    ap (λ o. lookup o (λ y. take_each k (map (λ (x : Lock). Some x) ls) (call y (Some l)))) (note_is notes asked calls k (Some l) less)
+    ∙ each_taken k ls (set notes k (Some l)) asked (calls ++ l ∷ []) (omega (arith, less, many))
+    ∙ ap (λ c. Some (record { notes = marked k ls (set notes k (Some l)); asked = asked; calls = c })) (append_assoc calls (l ∷ []) ls)

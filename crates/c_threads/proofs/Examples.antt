@@ -94,6 +94,7 @@ module _ (alloc : Global) (name : String Global) where
       start = 0;
       action = SetGlobal 0 (Chain' boxed (GlobalExpr 0 0) (vec (tt ∷ []) (omega arith)) (more_of-Operation Add (Number (pos 1)) end_of-Operation));
     } ∷ []) (omega arith);
+    listed = none;
   }
 
   abbrev calling : Thread

@@ -1,6 +1,9 @@
 -- The calls of AL_UNLOCK at the end release exactly the locked locks, each once.
 use Rattle.std.proofs.Common.{◌≡◌, ◌≢◌, suc, true, List, [], ◌∷◌, Option, sym, subst, arith, inl, inr}
 use Rattle.std.specs.List.{AllPairs, Contains}
+use Rattle.core_lang.specs.declared.tree.Section.{Section}
+use Rattle.core_lang.specs.declared.typed.Typed.{Typed}
+use Rattle.core_lang.specs.WellFormed.{IsWellFormed}
 use Rattle.core_lang.specs.Theory.Items.{in_cases, in_first, in_rest, not_in_none, distinct_first}
 use Rattle.locks.specs.declared.lock.Lock.{Lock}
 use Rattle.locks.specs.Locks.{among}
@@ -31,8 +34,10 @@ gives_back (lock ∷ rest) locked pairs all each = (
       (λ e. distinct_first lock rest pairs (subst (Contains rest) e c))),
 )
 
-pub all_given_back : EndsGiveBackWhatIsHeld → (notes : List (Option Lock)) (held : List Lock) → NotesAre notes held →
-    GivesBack held (given_back notes)
-all_given_back law notes held are =
-    let g = law notes held are in
-    gives_back (given_back notes) held g.once (λ l h. (g.exactly l).1 (among_contains held l h)) (λ l c. contains_among held l ((g.exactly l).0 c))
+pub all_given_back : EndsGiveBackWhatIsHeld → (program : Typed) (section : Section) (notes : List (Option Lock))
+    (held : List Lock) → IsWellFormed program → NotesAre program section notes held →
+    GivesBack held (given_back program section notes)
+all_given_back law program section notes held well are =
+    let g = law program section notes held well are in
+    gives_back (given_back program section notes) held g.once (λ l h. (g.exactly l).1 (among_contains held l h))
+    (λ l c. contains_among held l ((g.exactly l).0 c))

@@ -13,8 +13,8 @@ use Rattle.locks.specs.declared.lock.Lock.{Lock}
 use Rattle.locks.specs.Locks.{among}
 use Rattle.lowering.specs.Plans.{Plan}
 use Rattle.worlds.specs.Worlds.{scripts, code_at, call_at}
-use Rattle.c_threads.specs.Locking.{given_back}
 use Rattle.c_threads.specs.Threads.{now_at}
+use Rattle.c_threads.specs.Threads.{given_at}
 use Rattle.c_threads.specs.Threads.{Entry, Progress, Taking, Over, Leaving, CallInC, ThreadInC, WorldInC, Step, Idle, Waits, Goes, Breaks}
 use Rattle.c_threads.specs.Threads.{with_thread, is_locked, answer, entry, step, at_first, opening_in_c, begun_call}
 use Rattle.c_threads.specs.Claims.{Runs, IsOpen, HasEntry, HasNotBegun, EndsInOrder}
@@ -395,7 +395,7 @@ module _ (plan : Plan) (base w : WorldInC) (t : ℕ) (was : InOrder plan base w)
   )
   turn_leaves s (moves {x} {c} h e) = moves_leave x c s h e (does_moved plan w t x c e (slice_get (code_at plan c.call.section) c.place))
   turn_leaves s (over {x} {c} {outcome} h e) =
-      over_leave x c outcome s h e (unlocks_unlocked (record w { history = w.history ++ entry t x c outcome ∷ [] }) t x c outcome (given_back c.notes))
+      over_leave x c outcome s h e (unlocks_unlocked (record w { history = w.history ++ entry t x c outcome ∷ [] }) t x c outcome (given_at plan c))
   turn_leaves s (gives {x} {c} {outcome} {lock} {rest} h e) = gives_leave x c outcome (lock ∷ rest) s h e (unlocks_unlocked w t x c outcome (lock ∷ rest))
   turn_leaves s (returns {x} {c} {outcome} h e) = returns_leave x c outcome h e
 

@@ -1,5 +1,6 @@
 pub mod Acquires
 pub mod Addresses
+pub mod Alone
 pub mod Arrays
 mod Beside
 mod Calls
@@ -15,10 +16,12 @@ pub mod LockExamples
 pub mod LockGiving
 pub mod LockRuns
 pub mod Loops
+pub mod Members
 pub mod Noting
 mod Numbers
 pub mod Orders
 mod OutsideCalls
+mod Pools
 pub mod Roots
 mod Runs
 pub mod Same
@@ -31,4 +34,5 @@ pub mod Taking
 pub mod Texts
 mod Turns
 mod Waiting
+pub mod Whole
 mod Worlds

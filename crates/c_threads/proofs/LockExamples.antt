@@ -17,7 +17,7 @@ use Rattle.core_lang.specs.declared.typed.CellOwner.TheVariants as owner
 use Rattle.core_lang.specs.declared.typed.Typed.{Typed}
 use Rattle.locks.specs.declared.lock.Lock.{Lock}
 use Rattle.c_threads.specs.Locking.{Pointer, Locking, Acquired, acquired, given_back, drop_all, order_all, take_all}
-use Rattle.c_threads.specs.Locking.{Ask, Drop, Note, Exchange, Take, statements}
+use Rattle.c_threads.specs.Locking.{Ask, Drop, Note, Exchange, Take, TakeAlone, statements}
 use Rattle.locks.specs.LockPaths.{lock_paths}
 
 module _ (alloc : Global) (name : String Global) where
@@ -48,7 +48,12 @@ module _ (alloc : Global) (name : String Global) where
     result_type = None;
     result = None;
     body = vec (cleared 0 ∷ cleared 1 ∷ []) (omega arith);
+    listed = none;
   }
+
+  -- the same with lock(Acc.l) in its head
+  abbrev clear_all : Section
+  clear_all = record clear { listed = vec (0 ∷ []) (omega arith) }
 
   abbrev balance : ℕ → Cell
   balance k = record { owner = owner.Field k 0; value_type = Integer; opening = Int (pos 0) }
@@ -78,13 +83,13 @@ module _ (alloc : Global) (name : String Global) where
   abbrev its_lock : ℕ → Lock
   its_lock o = record { class = 0; object = o }
 
-  -- the acquire before the first point asks for two paths of one class
+  -- both paths are acquired before the first point, of two of their class
   the_statements : statements (lock_paths accounts clear) (0 ∷ 1 ∷ [])
       ≡ Ask 0 0 ∷ Ask 1 1 ∷ Drop 1 (0 ∷ 1 ∷ []) [] ∷ Drop 0 (0 ∷ 1 ∷ []) (1 ∷ []) ∷ Note 0 0 ∷ Note 1 1 ∷ Exchange 0
       ∷ Take 0 ∷ Take 1 ∷ []
   the_statements = refl
 
-  -- the acquire for these accounts, with these notes
+  -- on these accounts, with these notes
   abbrev acquires : Option ℕ → Option ℕ → List Pointer → Option Acquired
   acquires a b notes = acquired accounts clear (Ref a ∷ Ref b ∷ []) (0 ∷ 1 ∷ []) notes
 
@@ -95,12 +100,12 @@ module _ (alloc : Global) (name : String Global) where
       ≡ leaves (Some (its_lock 0) ∷ Some (its_lock 1) ∷ []) (its_lock 0 ∷ its_lock 1 ∷ [])
   in_order = refl
 
-  -- locks are ordered by object, whatever the order of the paths
+  -- by object, whatever the order of the paths
   turned : acquires (Some 1) (Some 0) (None ∷ None ∷ [])
       ≡ leaves (Some (its_lock 1) ∷ Some (its_lock 0) ∷ []) (its_lock 0 ∷ its_lock 1 ∷ [])
   turned = refl
 
-  -- two roots that are one account: its lock is acquired once, and noted once
+  -- an account twice: its lock is taken once, and noted once
   twice : acquires (Some 1) (Some 1) (None ∷ None ∷ []) ≡ leaves (None ∷ Some (its_lock 1) ∷ []) (its_lock 1 ∷ [])
   twice = refl
 
@@ -108,7 +113,7 @@ module _ (alloc : Global) (name : String Global) where
   with_null : acquires None (Some 1) (None ∷ None ∷ []) ≡ leaves (None ∷ Some (its_lock 1) ∷ []) (its_lock 1 ∷ [])
   with_null = refl
 
-  -- a held lock is not acquired again, even if another path holds it
+  -- one that is held isn't taken again, also where another path holds it
   held_already : acquires (Some 0) (Some 1) (Some (its_lock 0) ∷ None ∷ [])
       ≡ leaves (Some (its_lock 0) ∷ Some (its_lock 1) ∷ []) (its_lock 1 ∷ [])
   held_already = refl
@@ -116,12 +121,32 @@ module _ (alloc : Global) (name : String Global) where
   held_by_another : acquires (Some 1) (Some 1) (None ∷ Some (its_lock 1) ∷ []) ≡ leaves (None ∷ Some (its_lock 1) ∷ []) []
   held_by_another = refl
 
-  -- each lock is released, the last path's first
-  back : given_back (Some (its_lock 1) ∷ Some (its_lock 0) ∷ []) ≡ its_lock 0 ∷ its_lock 1 ∷ []
+  -- each is given back, the last path's first
+  back : given_back accounts clear (Some (its_lock 1) ∷ Some (its_lock 0) ∷ []) ≡ its_lock 0 ∷ its_lock 1 ∷ []
   back = refl
 
-  back_once : given_back (None ∷ Some (its_lock 1) ∷ []) ≡ its_lock 1 ∷ []
+  back_once : given_back accounts clear (None ∷ Some (its_lock 1) ∷ []) ≡ its_lock 1 ∷ []
   back_once = refl
+
+  -- ---- a whole class, which is one path
+
+  whole_statements : statements (lock_paths accounts clear_all) (0 ∷ []) ≡ TakeAlone 0 ∷ []
+  whole_statements = refl
+
+  abbrev acquires_all : List Pointer → Option Acquired
+  acquires_all notes = acquired accounts clear_all (Ref (Some 1) ∷ Ref (Some 0) ∷ []) (0 ∷ []) notes
+
+  -- the lock of each member is taken, in the order of the members, and the note is the last one
+  all_taken : acquires_all (None ∷ []) ≡ leaves (Some (its_lock 1) ∷ []) (its_lock 0 ∷ its_lock 1 ∷ [])
+  all_taken = refl
+
+  -- a class that is held isn't taken again
+  all_held : acquires_all (Some (its_lock 1) ∷ []) ≡ leaves (Some (its_lock 1) ∷ []) []
+  all_held = refl
+
+  -- the note stands for all of them
+  all_back : given_back accounts clear_all (Some (its_lock 1) ∷ []) ≡ its_lock 0 ∷ its_lock 1 ∷ []
+  all_back = refl
 
   -- ---- the three functions, on arrays
 
@@ -131,7 +156,7 @@ module _ (alloc : Global) (name : String Global) where
   abbrev at : ℕ → Pointer
   at o = Some (its_lock o)
 
-  -- of equal locks all but the last become NULL, and so do held ones
+  -- what is held is dropped, and of equal ones all but the last
   drops : drop_all 4 2 (with_array (None ∷ at 5 ∷ []) (at 3 ∷ at 5 ∷ at 3 ∷ at 1 ∷ []) [])
       ≡ Some (with_array (None ∷ at 5 ∷ []) (None ∷ None ∷ at 3 ∷ at 1 ∷ []) [])
   drops = refl

@@ -78,6 +78,70 @@ module _ (paths : List LockPath) where
     ]
     by false c more = (let less = more c in omega (arith, less))
 
+  from_class : (class n : ℕ) (ps : List LockPath) (i : ℕ) → Contains (of_class class n ps) i → n ≤ i
+  from_class class n [] i c = absurd (not_in_none i c)
+  from_class class n (p ∷ ps) i c = by (p.class == class) c (from_class class (n + 1) ps i) where
+    by : (b : Bool) → Contains (if b then n ∷ of_class class (n + 1) ps else of_class class (n + 1) ps) i →
+        (Contains (of_class class (n + 1) ps) i → n + 1 ≤ i) → n ≤ i
+    by true c more = elim (in_cases n i (of_class class (n + 1) ps) c) [
+      | inl e ↦ omega (arith, e)
+      | inr d ↦ (let low = more d in omega (arith, low))
+    ]
+    by false c more = (let low = more c in omega (arith, low))
+
+  of_class_is : (class n : ℕ) (ps : List LockPath) (i : ℕ) → Contains (of_class class n ps) (n + i) →
+      (path : LockPath) × (slice_get ps i ≡ Some path) × (path.class ≡ class)
+  of_class_is class n [] i c = absurd (not_in_none (n + i) c)
+  of_class_is class n (p ∷ ps) zero c = by (p.class == class) refl c where
+    low : Contains (of_class class (n + 1) ps) (n + 0) → ⊥
+    low d = (let more = from_class class (n + 1) ps (n + 0) d in omega (arith, more))
+
+    by : (b : Bool) → (p.class == class) ≡ b →
+        Contains (if b then n ∷ of_class class (n + 1) ps else of_class class (n + 1) ps) (n + 0) →
+        (path : LockPath) × (Some p ≡ Some path) × (path.class ≡ class)
+    by true e c = (p, refl, eqb-true p.class class e)
+    by false e c = absurd (low c)
+  of_class_is class n (p ∷ ps) (suc i) c =
+      let shift : n + suc i ≡ n + 1 + i = omega arith in
+      by (λ d. of_class_is class (n + 1) ps i (subst (Contains (of_class class (n + 1) ps)) shift d)) (p.class == class) c
+    where
+      by : (Contains (of_class class (n + 1) ps) (n + suc i) → (path : LockPath) × (slice_get ps i ≡ Some path) × (path.class ≡ class)) →
+          (b : Bool) → Contains (if b then n ∷ of_class class (n + 1) ps else of_class class (n + 1) ps) (n + suc i) →
+          (path : LockPath) × (slice_get ps i ≡ Some path) × (path.class ≡ class)
+      by further true c = elim (in_cases n (n + suc i) (of_class class (n + 1) ps) c) [
+        | inl e ↦ absurd (omega (arith, e))
+        | inr d ↦ further d
+      ]
+      by further false c = further c
+
+  -- a number of the class, with its path
+  pub class_has : (class i : ℕ) → Contains (of_class class 0 paths) i → HasClass i class
+  class_has class i c =
+      let first : i ≡ 0 + i = omega arith in
+      let r = of_class_is class 0 paths i (subst (Contains (of_class class 0 paths)) first c) in
+      record { path = r.0; here = r.1; is = r.2 }
+
+  -- a class of which all paths have one number has one path
+  pub one_of_class : (class n k : ℕ) (ps : List LockPath) → ((i : ℕ) → Contains (of_class class n ps) i → i ≡ k) →
+      length (of_class class n ps) ≤ 1
+  one_of_class class n k [] same = omega arith
+  one_of_class class n k (p ∷ ps) same = by (p.class == class) same (one_of_class class (n + 1) k ps) where
+    none : (xs : List ℕ) → xs ≡ of_class class (n + 1) ps → n ≡ k → ((i : ℕ) → Contains xs i → i ≡ k) → length (n ∷ xs) ≤ 1
+    none [] e first rest = omega arith
+    none (x ∷ xs) e first rest =
+        let here = rest x (in_first x xs) in
+        let low = from_class class (n + 1) ps x (subst (λ ys. Contains ys x) e (in_first x xs)) in
+        absurd (omega (arith, here, low, first))
+
+    by : (b : Bool) →
+        ((i : ℕ) → Contains (if b then n ∷ of_class class (n + 1) ps else of_class class (n + 1) ps) i → i ≡ k) →
+        (((i : ℕ) → Contains (of_class class (n + 1) ps) i → i ≡ k) → length (of_class class (n + 1) ps) ≤ 1) →
+        length (if b then n ∷ of_class class (n + 1) ps else of_class class (n + 1) ps) ≤ 1
+    by true same more =
+        none (of_class class (n + 1) ps) refl (same n (in_first n (of_class class (n + 1) ps)))
+        (λ i c. same i (in_rest n i (of_class class (n + 1) ps) c))
+    by false same more = more same
+
   -- ---- order
 
   module _ (ranks : List ℕ) where

@@ -1,5 +1,5 @@
 -- The notes after a run of paths of one class.
-use Rattle.std.proofs.Common.{◌≡◌, ◌≢◌, ◌⊎◌, ◌<◌, ℕ, zero, suc, List, [], ◌∷◌, ◌++◌, map, length, Some, None}
+use Rattle.std.proofs.Common.{◌≡◌, ◌⊎◌, ◌<◌, ℕ, zero, suc, List, [], ◌∷◌, ◌++◌, map, length, Some, None}
 use Rattle.std.proofs.Common.{Bool, true, false, slice_get, set, refl, sym, ap, ◌∙◌, subst, arith, inl, inr, if◌then◌else◌}
 use Rattle.std.proofs.Common.{append_assoc}
 use Rattle.std.specs.Prelude.{◌||◌, ⊤}
@@ -7,12 +7,14 @@ use Rattle.std.specs.List.{Contains}
 use Rattle.std.proofs.lemmas.Bool.{cases_Bool, cases_eq, or_cases, or_left, or_right, or_parts, true≢false}
 use Rattle.std.proofs.lemmas.Option.{none-some, same_Some, slice_get_within}
 use Rattle.std.proofs.lemmas.List.{append-nil}
-use Rattle.std.proofs.lemmas.List.Elements.{Contains-append_left, Contains-append_right, Contains-append_cases, Contains-push}
-use Rattle.core_lang.specs.Theory.Items.{in_cases, in_first, in_rest, not_in_none, push_cases, set_same, set_other, still_other}
+use Rattle.std.proofs.lemmas.List.Elements.{Contains-append_left, Contains-append_right, Contains-append_cases}
+use Rattle.core_lang.specs.declared.tree.Section.{Section}
+use Rattle.core_lang.specs.declared.typed.Typed.{Typed}
+use Rattle.core_lang.specs.Theory.Items.{one_contained, in_cases, in_first, in_rest, not_in_none, push_cases, set_same, set_other}
 use Rattle.locks.specs.declared.lock.Lock.{Lock}
 use Rattle.locks.specs.Locks.{same_lock, among}
 use Rattle.locks.specs.Theory.Order.{same_is, same_refl, same_itself, among_contains}
-use Rattle.c_threads.specs.Locking.{Pointer, NotesAre}
+use Rattle.c_threads.specs.Locking.{Pointer, NotesAre, had, stood_for, noted_at}
 use Rattle.c_threads.proofs.Orders.{is_same, any_same, dropped, aimed, ordered, called, any_ordered}
 use Rattle.c_threads.proofs.Loops.{put, noted, length_put}
 
@@ -58,15 +60,6 @@ not_among held lock not = elim (cases_Bool (among held lock)) [
   | inr e ↦ e
 ]
 
--- the notes of some locks are the notes of the same locks in another order
-pub notes_same : (notes : List Pointer) (xs ys : List Lock) → ((l : Lock) → Contains xs l → Contains ys l) →
-    ((l : Lock) → Contains ys l → Contains xs l) → NotesAre notes xs → NotesAre notes ys
-notes_same notes xs ys there back are = record {
-  noted = λ l c. are.noted l (back l c);
-  only = λ k l e. there l (are.only k l e);
-  once = are.once;
-}
-
 in_order : (held : List Lock) (ps : List Pointer) (l : Lock) → Contains (held ++ called ps) l →
     Contains (held ++ called (ordered ps)) l
 in_order held ps l c = elim (Contains-append_cases held (called ps) l c) [
@@ -83,49 +76,71 @@ out_of_order held ps l c = elim (Contains-append_cases held (called (ordered ps)
       (any_called l ps (sym (any_ordered l ps) ∙ called_any l (ordered ps) d))
 ]
 
-pub notes_ordered : (notes : List Pointer) (held : List Lock) (ps : List Pointer) → NotesAre notes (held ++ called ps) →
-    NotesAre notes (held ++ called (ordered ps))
-notes_ordered notes held ps are =
-    notes_same notes (held ++ called ps) (held ++ called (ordered ps)) (in_order held ps) (out_of_order held ps) are
+-- for a program and a section of it
+module _ (program : Typed) (section : Section) where
+  abbrev Are : List Pointer → List Lock → Type 0
+  Are notes held = NotesAre program section notes held
 
--- one more lock is noted
-note_one : (notes : List Pointer) (held : List Lock) (k : ℕ) (lock : Lock) → NotesAre notes held →
-    slice_get notes k ≡ Some None → (Contains held lock → ⊥) →
-    NotesAre (set notes k (Some lock)) (held ++ lock ∷ [])
-note_one notes held k lock are free new = record {
-  noted = λ l c. elim (push_cases held lock l c) [
-    | inl d ↦ (let r = are.noted l d in (r.0, still_other notes k r.0 (Some lock) (Some l) (apart r.0 l r.1) r.1))
-    | inr e ↦ (k, here ∙ ap (λ (x : Lock). Some (Some x)) e)
-  ];
-  only = λ i l e. elim (cases_eq i k) [
-    | inl same ↦ subst (Contains (held ++ lock ∷ [])) (its i l same e) (Contains-push held lock)
-    | inr other ↦ Contains-append_left held (lock ∷ []) l (are.only i l (before i l other e))
-  ];
-  once = λ i j l ei ej. elim (cases_eq i k) [
-    | inl si ↦ elim (cases_eq j k) [
-      | inl sj ↦ si ∙ sym sj
-      | inr oj ↦ absurd (new (subst (Contains held) (sym (its i l si ei)) (are.only j l (before j l oj ej))))
-    ]
-    | inr oi ↦ elim (cases_eq j k) [
-      | inl sj ↦ absurd (new (subst (Contains held) (sym (its j l sj ej)) (are.only i l (before i l oi ei))))
-      | inr oj ↦ are.once i j l (before i l oi ei) (before j l oj ej)
-    ]
-  ];
-} where
-  here : slice_get (set notes k (Some lock)) k ≡ Some (Some lock)
-  here = set_same notes k (Some lock) (slice_get_within notes k None free)
+  abbrev stood : ℕ → Lock → List Lock
+  stood k lock = stood_for program section k lock
 
-  apart : (i : ℕ) (l : Lock) → slice_get notes i ≡ Some (Some l) → i ≢ k
-  apart i l e same = (let bad : Some None ≡ Some (Some l) = sym free ∙ (ap (slice_get notes) (sym same) ∙ e) in cc bad)
+  abbrev at : List Pointer → ℕ → List Lock
+  at notes k = noted_at program section notes k
 
-  its : (i : ℕ) (l : Lock) → i ≡ k → slice_get (set notes k (Some lock)) i ≡ Some (Some l) → lock ≡ l
-  its i l same e =
-      let both : Some (Some lock) ≡ Some (Some l) = sym here ∙ (ap (slice_get (set notes k (Some lock))) (sym same) ∙ e) in
-      cc both
+  -- the same locks in another order
+  pub notes_same : (notes : List Pointer) (xs ys : List Lock) → ((l : Lock) → Contains xs l → Contains ys l) →
+      ((l : Lock) → Contains ys l → Contains xs l) → Are notes xs → Are notes ys
+  notes_same notes xs ys there back are = record {
+    noted = λ l c. are.noted l (back l c);
+    only = λ k l e. there l (are.only k l e);
+    once = are.once;
+  }
 
-  before : (i : ℕ) (l : Lock) → (i ≡ k → ⊥) → slice_get (set notes k (Some lock)) i ≡ Some (Some l) →
-      slice_get notes i ≡ Some (Some l)
-  before i l other e = sym (set_other notes k i (Some lock) (λ same. other (sym same))) ∙ e
+  pub notes_ordered : (notes : List Pointer) (held : List Lock) (ps : List Pointer) → Are notes (held ++ called ps) →
+      Are notes (held ++ called (ordered ps))
+  notes_ordered notes held ps are =
+      notes_same notes (held ++ called ps) (held ++ called (ordered ps)) (in_order held ps) (out_of_order held ps) are
+
+  -- one more note, which stands for locks that are not held
+  pub note_one : (notes : List Pointer) (held : List Lock) (k : ℕ) (lock : Lock) → Are notes held →
+      slice_get notes k ≡ Some None → ((l : Lock) → Contains (stood k lock) l → Contains held l → ⊥) →
+      Are (set notes k (Some lock)) (held ++ stood k lock)
+  note_one notes held k lock are free new = record {
+    noted = λ l c. elim (Contains-append_cases held (stood k lock) l c) [
+      | inl d ↦ (let r = are.noted l d in (r.0, subst (λ xs. Contains xs l) (sym (before r.0 (apart r.0 l r.1))) r.1))
+      | inr e ↦ (k, subst (λ xs. Contains xs l) (sym (here k refl)) e)
+    ];
+    only = λ i l e. elim (cases_eq i k) [
+      | inl same ↦ Contains-append_right held (stood k lock) l (its i l same e)
+      | inr other ↦ Contains-append_left held (stood k lock) l (are.only i l (old i l other e))
+    ];
+    once = λ i j l ei ej. elim (cases_eq i k) [
+      | inl si ↦ elim (cases_eq j k) [
+        | inl sj ↦ si ∙ sym sj
+        | inr oj ↦ absurd (new l (its i l si ei) (are.only j l (old j l oj ej)))
+      ]
+      | inr oi ↦ elim (cases_eq j k) [
+        | inl sj ↦ absurd (new l (its j l sj ej) (are.only i l (old i l oi ei)))
+        | inr oj ↦ are.once i j l (old i l oi ei) (old j l oj ej)
+      ]
+    ];
+  } where
+    here : (i : ℕ) → i ≡ k → at (set notes k (Some lock)) i ≡ stood k lock
+    here i same =
+        ap (at (set notes k (Some lock))) same ∙ ap (had (stood k)) (set_same notes k (Some lock) (slice_get_within notes k None free))
+
+    before : (i : ℕ) → (i ≡ k → ⊥) → at (set notes k (Some lock)) i ≡ at notes i
+    before i other = ap (had (stood i)) (set_other notes k i (Some lock) (λ same. other (sym same)))
+
+    apart : (i : ℕ) (l : Lock) → Contains (at notes i) l → i ≡ k → ⊥
+    apart i l c same =
+        not_in_none l (subst (λ xs. Contains xs l) (ap (at notes) same ∙ ap (had (stood k)) free) c)
+
+    its : (i : ℕ) (l : Lock) → i ≡ k → Contains (at (set notes k (Some lock)) i) l → Contains (stood k lock) l
+    its i l same c = subst (λ xs. Contains xs l) (here i same) c
+
+    old : (i : ℕ) (l : Lock) → (i ≡ k → ⊥) → Contains (at (set notes k (Some lock)) i) l → Contains (at notes i) l
+    old i l other c = subst (λ xs. Contains xs l) (before i other) c
 
 -- ---- after a run
 
@@ -134,11 +149,15 @@ abbrev pub Rising : List ℕ → Type 0
 Rising [] = ⊤
 Rising (k ∷ ks) = ((i : ℕ) → Contains ks i → k < i) × Rising ks
 
-module _ (name : ℕ → Pointer) (first : List Lock) where
+module _ (program : Typed) (section : Section) (name : ℕ → Pointer) (first : List Lock) where
+  -- the notes of these paths stand for themselves
+  abbrev pub Single : List ℕ → Type 0
+  Single ks = (k : ℕ) (l : Lock) → Contains ks k → stood_for program section k l ≡ l ∷ []
+
   abbrev pub kept_of : List ℕ → List Pointer
   kept_of ks = aimed first (map name ks)
 
-  -- the notes of these paths are the locks that the paths name
+  -- the notes at these numbers name what the paths name
   abbrev pub Fit : List ℕ → List Pointer → Type 0
   Fit ks notes = (k : ℕ) (l : Lock) → Contains ks k → slice_get notes k ≡ Some (Some l) → name k ≡ Some l
 
@@ -159,24 +178,24 @@ module _ (name : ℕ → Pointer) (first : List Lock) where
     by false false ea eb = inr (refl, ea, eb)
 
   abbrev Goal : List ℕ → List Pointer → List Pointer → List Lock → Type 0
-  Goal ks ps notes held = NotesAre (noted ks ps notes) (held ++ called ps)
+  Goal ks ps notes held = NotesAre program section (noted ks ps notes) (held ++ called ps)
 
-  -- after a run, the notes are those of the locks that were held, and of those that are kept
+  -- after a run the notes are of what was held and of what is kept
   abbrev NoteRun : List ℕ → Type 0
   NoteRun ks =
-      (notes : List Pointer) (held : List Lock) → NotesAre notes held → Rising ks →
+      (notes : List Pointer) (held : List Lock) → NotesAre program section notes held → Rising ks → Single ks →
       ((k : ℕ) → Contains ks k → k < length notes) → Fit ks notes →
       ((l : Lock) → Contains held l → any_same l (kept_of ks) ≡ false) → Goal ks (kept_of ks) notes held
 
   one_more : (k : ℕ) (ks : List ℕ) → NoteRun ks → NoteRun (k ∷ ks)
-  one_more k ks more notes held are rising within fit apart = by (name k) refl where
+  one_more k ks more notes held are rising single within fit apart = by (name k) refl where
     parts : (l : Lock) → Contains held l →
         (is_same l (dropped first (kept_of ks) (name k)) ≡ false) × (any_same l (kept_of ks) ≡ false)
     parts l c = or_parts (is_same l (dropped first (kept_of ks) (name k))) (any_same l (kept_of ks)) (apart l c)
 
     passed : Goal (k ∷ ks) (None ∷ kept_of ks) notes held
     passed =
-        more notes held are rising.1 (λ i c. within i (in_rest k i ks c)) (λ i l c. fit i l (in_rest k i ks c))
+        more notes held are rising.1 (λ i l c. single i l (in_rest k i ks c)) (λ i c. within i (in_rest k i ks c)) (λ i l c. fit i l (in_rest k i ks c))
         (λ l c. (parts l c).1)
 
     less_other : (i : ℕ) → k < i → k ≡ i → ⊥
@@ -187,7 +206,9 @@ module _ (name : ℕ → Pointer) (first : List Lock) where
     none (Some x) e l named new =
         let mine = fit k x (in_first k ks) e in
         let same : x ≡ l = same_Some x l (sym mine ∙ named) in
-        absurd (new (are.only k l (e ∙ ap (λ (y : Lock). Some (Some y)) same)))
+        let its : noted_at program section notes k ≡ l ∷ [] =
+        ap (had (stood_for program section k)) (e ∙ ap (λ (y : Lock). Some (Some y)) same) ∙ single k l (in_first k ks) in
+        absurd (new (are.only k l (subst (λ xs. Contains xs l) (sym its) (in_first l []))))
 
     taken : (l : Lock) → name k ≡ Some l → dropped first (kept_of ks) (name k) ≡ Some l → any_same l (kept_of ks) ≡ false →
         Goal (k ∷ ks) (Some l ∷ kept_of ks) notes held
@@ -197,15 +218,20 @@ module _ (name : ℕ → Pointer) (first : List Lock) where
         let at = some_of notes k (within k (in_first k ks)) in
         let free : slice_get notes k ≡ Some None = at.1 ∙ ap (λ p. Some p) (none at.0 at.1 l named new) in
         let many = length_put notes k (Some l) in
+        let alone_there = single k l (in_first k ks) in
+        let noted_one : NotesAre program section (set notes k (Some l)) (held ++ l ∷ []) =
+        subst (λ xs. NotesAre program section (set notes k (Some l)) (held ++ xs)) alone_there
+        (note_one program section notes held k l are free
+        (λ x c d. new (subst (Contains held) (sym (one_contained l x (subst (λ xs. Contains xs x) alone_there c))) d))) in
         let rest =
-        more (set notes k (Some l)) (held ++ l ∷ []) (note_one notes held k l are free new) rising.1
+        more (set notes k (Some l)) (held ++ l ∷ []) noted_one rising.1 (λ i x c. single i x (in_rest k i ks c))
         (λ i c. subst (λ n. i < n) (sym many) (within i (in_rest k i ks c)))
         (λ i x c e. fit i x (in_rest k i ks c) (sym (set_other notes k i (Some l) (less_other i (rising.0 i c))) ∙ e))
         (λ x c. elim (push_cases held l x c) [
           | inl d ↦ (parts x d).1
           | inr e ↦ subst (λ y. any_same y (kept_of ks) ≡ false) e alone
         ]) in
-        subst (NotesAre (noted ks (kept_of ks) (set notes k (Some l)))) (append_assoc held (l ∷ []) (called (kept_of ks))) rest
+        subst (NotesAre program section (noted ks (kept_of ks) (set notes k (Some l)))) (append_assoc held (l ∷ []) (called (kept_of ks))) rest
 
     by : (p : Pointer) → name k ≡ p → Goal (k ∷ ks) (dropped first (kept_of ks) p ∷ kept_of ks) notes held
     by None e = passed
@@ -216,11 +242,11 @@ module _ (name : ℕ → Pointer) (first : List Lock) where
     ]
 
   pub note_run : (ks : List ℕ) → NoteRun ks
-  note_run [] notes held are rising within fit apart = subst (NotesAre notes) (sym (append-nil held)) are
-  note_run (k ∷ ks) notes held are rising within fit apart =
-      one_more k ks (note_run ks) notes held are rising within fit apart
+  note_run [] notes held are rising single within fit apart = subst (NotesAre program section notes) (sym (append-nil held)) are
+  note_run (k ∷ ks) notes held are rising single within fit apart =
+      one_more k ks (note_run ks) notes held are rising single within fit apart
 
-  -- none of the kept locks was held before
+  -- none of those that are kept was held
   pub kept_apart : (ks : List ℕ) (l : Lock) → among first l ≡ true → any_same l (kept_of ks) ≡ false
   kept_apart [] l h = refl
   kept_apart (k ∷ ks) l h = by (name k) (kept_apart ks l h) where
@@ -239,7 +265,7 @@ module _ (name : ℕ → Pointer) (first : List Lock) where
       | inr s ↦ ap (λ p. is_same l p || any_same l (kept_of ks)) s.0 ∙ other x s.1 rest
     ]
 
-  -- a note after the run was there before, or is one of the run
+  -- a note after the run was there, or is one of the run's
   abbrev Found : List ℕ → List Pointer → ℕ → Lock → Type 0
   Found ks notes i l = (slice_get notes i ≡ Some (Some l)) ⊎ (Contains ks i × (name i ≡ Some l))
 

@@ -1,4 +1,4 @@
--- The locks that are taken of a class are those that are asked for, in their order, class after class.
+-- The locks that are taken of a class are those to ask for, in their order, class after class.
 use Rattle.std.proofs.Common.{◌≡◌, ℕ, ◌<◌, List, [], ◌∷◌, ◌++◌, Option, Some, None, Bool, true, false}
 use Rattle.std.proofs.Common.{refl, sym, ap, ◌∙◌, subst, arith}
 use Rattle.std.specs.Prelude.{nat_lt, ◌||◌, ◌&&◌, ◌==◌, if◌then◌else◌, slice_index, ⊤}
@@ -6,9 +6,14 @@ use Rattle.std.proofs.lemmas.Bool.Decides.{nat_tests}
 use Rattle.locks.specs.declared.lock.Lock.{Lock}
 use Rattle.locks.specs.Locks.{same_lock, among}
 use Rattle.locks.specs.Order.{precedes}
-use Rattle.worlds.specs.Asking.{insert, insert_new}
+use Rattle.worlds.specs.Asking.{insert}
 
--- ---- the locks that are taken, of those that the paths of one class name
+-- the locks with one that is not held inserted; NULL is no lock
+abbrev pub insert_one : List ℕ → List Lock → Option Lock → List Lock → List Lock
+insert_one ranks held None locks = locks
+insert_one ranks held (Some lock) locks = if among held lock then locks else insert ranks lock locks
+
+-- ---- what is taken of the locks that paths of one class ask for
 
 abbrev pub is_same : Lock → Option Lock → Bool
 is_same lock None = false
@@ -18,23 +23,23 @@ abbrev pub any_same : Lock → List (Option Lock) → Bool
 any_same lock [] = false
 any_same lock (m ∷ ms) = is_same lock m || any_same lock ms
 
--- a lock that is held, or asked for later, becomes NULL
+-- one that is held, or asked for later, becomes NULL
 abbrev pub dropped : List Lock → List (Option Lock) → Option Lock → Option Lock
 dropped held later None = None
 dropped held later (Some lock) = if among held lock then None else if any_same lock later then None else Some lock
 
--- locks that are dropped from the last to the first
+-- from the last to the first
 abbrev pub aimed : List Lock → List (Option Lock) → List (Option Lock)
 aimed held [] = []
 aimed held (m ∷ ms) = dropped held (aimed held ms) m ∷ aimed held ms
 
--- the order within a class
+-- within a class
 abbrev pub is_below : Option Lock → Option Lock → Bool
 is_below a None = false
 is_below None (Some b) = true
 is_below (Some a) (Some b) = nat_lt a.object b.object
 
--- a lock that is exchanged with the next one, which then is exchanged with the one after, and so on
+-- exchanged with the next one, then that with the one after it, and so on
 abbrev pub passed_up : Option Lock → List (Option Lock) → List (Option Lock)
 passed_up m [] = m ∷ []
 passed_up m (n ∷ ns) = if is_below n m then n ∷ passed_up m ns else m ∷ passed_up n ns
@@ -43,7 +48,7 @@ abbrev pub ordered : List (Option Lock) → List (Option Lock)
 ordered [] = []
 ordered (m ∷ ms) = passed_up m (ordered ms)
 
--- the calls of AL_LOCK that are made
+-- the calls that are made
 abbrev pub called : List (Option Lock) → List Lock
 called [] = []
 called (None ∷ ms) = called ms
@@ -70,18 +75,9 @@ abbrev pub AreAbove : List ℕ → ℕ → List (Option Lock) → Type 0
 AreAbove ranks class [] = ⊤
 AreAbove ranks class (m ∷ ms) = IsAbove ranks class m × AreAbove ranks class ms
 
-abbrev pub all_of : List (List (Option Lock)) → List (Option Lock)
-all_of [] = []
-all_of (g ∷ gs) = g ++ all_of gs
-
--- the locks of each group are of one class, of less rank than those of the groups after it
-abbrev pub Rise : List ℕ → List (List (Option Lock)) → Type 0
-Rise ranks [] = ⊤
-Rise ranks (g ∷ gs) = ((class : ℕ) × AreOf class g × AreAbove ranks class (all_of gs)) × Rise ranks gs
-
 -- ---- order within a class
 
--- no lock of the list is below `m`
+-- nothing of these is below a first one
 abbrev NoneBelow : Option Lock → List (Option Lock) → Type 0
 NoneBelow m [] = ⊤
 NoneBelow m (n ∷ ns) = (is_below n m ≡ false) × NoneBelow m ns
@@ -110,12 +106,12 @@ none_below : (a b : Option Lock) (ms : List (Option Lock)) → is_below b a ≡ 
 none_below a b [] h k = tt
 none_below a b (m ∷ ms) h k = (not_below a b m h k.0, none_below a b ms h k.1)
 
--- a property of both branches holds of a choice
+-- both ways of a choice
 either_by : (b : Bool) (P : List (Option Lock) → Type 0) (x y : List (Option Lock)) → P x → P y → P (if b then x else y)
 either_by true P x y h k = h
 either_by false P x y h k = k
 
--- passing a lock up through a list keeps that no lock of the list is below `a`
+-- a list through which a lock was passed up: a lock that none was below has none below it still
 none_below_passed : (a m : Option Lock) (ns : List (Option Lock)) → is_below m a ≡ false → NoneBelow a ns → NoneBelow a (passed_up m ns)
 none_below_passed a m [] h k = (h, tt)
 none_below_passed a m (n ∷ ns) h k =
@@ -158,14 +154,14 @@ lt_self k = grind (arith, nat_tests)
 eq_self : (k : ℕ) → (k == k) ≡ true
 eq_self k = grind (arith, nat_tests)
 
--- two locks of one class precede each other by their objects
-same_class : (ranks : List ℕ) (a b : Lock) → a.class ≡ b.class → precedes ranks a b ≡ nat_lt a.object b.object
+-- what is known of two locks of one class, one of which is another
+pub same_class : (ranks : List ℕ) (a b : Lock) → a.class ≡ b.class → precedes ranks a b ≡ nat_lt a.object b.object
 same_class ranks a b e =
     ap (λ c. nat_lt (slice_index ranks c) (slice_index ranks b.class) || ((c == b.class) && nat_lt a.object b.object)) e
     ∙ ap (λ x. x || ((b.class == b.class) && nat_lt a.object b.object)) (lt_self (slice_index ranks b.class))
     ∙ ap (λ x. x && nat_lt a.object b.object) (eq_self b.class)
 
-same_object : (a b : Lock) → a.class ≡ b.class → same_lock a b ≡ (a.object == b.object)
+pub same_object : (a b : Lock) → a.class ≡ b.class → same_lock a b ≡ (a.object == b.object)
 same_object a b e = ap (λ c. (c == b.class) && (a.object == b.object)) e ∙ ap (λ x. x && (a.object == b.object)) (eq_self b.class)
 
 numbers_apart : (a b : ℕ) → (a == b) ≡ false → nat_lt b a ≡ false → nat_lt a b ≡ true
@@ -210,7 +206,7 @@ module _ (ranks : List ℕ) (class : ℕ) (lock : Lock) (of_class : lock.class �
       lock_passes_by (nat_lt n.object lock.object) n ns refl s (of_class ∙ sym are.0) (or_left (same_lock lock n) (any_same lock ns) e)
       (lock_passes ns s.1 are.1 (or_right (same_lock lock n) (any_same lock ns) e))
 
-  -- a lock that is in the list is not inserted again
+  -- one that is there isn't put in again
   object_is : (n : Lock) → n.class ≡ class → same_lock lock n ≡ true → lock.object ≡ n.object
   object_is n c e =
       let q : (lock.object == n.object) ≡ true = sym (same_object lock n (of_class ∙ sym c)) ∙ e in
@@ -291,7 +287,7 @@ module _ (ranks : List ℕ) (held : List Lock) where
   -- the locks to ask for, by what the paths name
   abbrev pub asked : List (Option Lock) → List Lock
   asked [] = []
-  asked (m ∷ ms) = insert_new ranks held m (asked ms)
+  asked (m ∷ ms) = insert_one ranks held m (asked ms)
 
   one_class_by : (class : ℕ) (lock : Lock) (later : List (Option Lock)) (a b : Bool) → lock.class ≡ class → AreOf class later →
       any_same lock later ≡ b →
@@ -303,7 +299,7 @@ module _ (ranks : List ℕ) (held : List Lock) where
   one_class_by class lock later false false c are e =
       lock_passes ranks class lock c (ordered later) (ordered_sorted later) (of_ordered class later are) (any_ordered lock later ∙ e)
 
-  one_class : (class : ℕ) (ms : List (Option Lock)) → AreOf class ms → taken held ms ≡ asked ms
+  pub one_class : (class : ℕ) (ms : List (Option Lock)) → AreOf class ms → taken held ms ≡ asked ms
   one_class class [] are = refl
   one_class class (None ∷ ms) are =
       null_passes (ordered (aimed held ms)) (ordered_sorted (aimed held ms)) ∙ one_class class ms are.1
@@ -375,24 +371,14 @@ module _ (ranks : List ℕ) (held : List Lock) where
       by false true ih = refl
       by false false ih = ap (λ t. l ∷ t) ih
 
-  asked_append : (class : ℕ) (g rest : List (Option Lock)) → AreOf class g → AreAbove ranks class rest →
+  pub asked_append : (class : ℕ) (g rest : List (Option Lock)) → AreOf class g → AreAbove ranks class rest →
       asked (g ++ rest) ≡ asked g ++ asked rest
   asked_append class [] rest are above = refl
   asked_append class (None ∷ g) rest are above = asked_append class g rest are.1 above
   asked_append class (Some lock ∷ g) rest are above =
-      ap (insert_new ranks held (Some lock)) (asked_append class g rest are.1 above) ∙ by (among held lock)
+      ap (insert_one ranks held (Some lock)) (asked_append class g rest are.1 above) ∙ by (among held lock)
     where
       by : (b : Bool) →
           (if b then asked g ++ asked rest else insert ranks lock (asked g ++ asked rest)) ≡ (if b then asked g else insert ranks lock (asked g)) ++ asked rest
       by true = refl
       by false = insert_front class lock (asked g) (asked rest) are.0 (above_asked class rest above)
-
-  abbrev pub takens : List (List (Option Lock)) → List Lock
-  takens [] = []
-  takens (g ∷ gs) = taken held g ++ takens gs
-
-  pub every_class : (gs : List (List (Option Lock))) → Rise ranks gs → takens gs ≡ asked (all_of gs)
-  every_class [] rise = refl
-  every_class (g ∷ gs) rise =
-      ap (λ t. t ++ takens gs) (one_class rise.0.0 g rise.0.1) ∙ ap (λ t. asked g ++ t) (every_class gs rise.1)
-      ∙ sym (asked_append rise.0.0 g (all_of gs) rise.0.1 rise.0.2)

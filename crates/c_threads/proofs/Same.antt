@@ -62,6 +62,7 @@ module _ (p : Typed) (t : Vec Thread Global) where
     global = λ g x e. (let r = h.global g x e in (r.0, cell x.cell (owner.Global g) r.0 r.1));
     array = λ a x e i less. cell (x.first + i) (owner.Element a i) x.element (h.array a x e i less);
     pool = h.pool;
+    rise = h.rise;
     structure = h.structure;
     object = h.object;
     field = λ o x e s f value_type is has. cell (x.cells + f) (owner.Field o f) value_type (h.field o x e s f value_type is has);

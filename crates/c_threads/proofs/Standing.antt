@@ -9,17 +9,18 @@ use Rattle.std.specs.List.{Contains}
 use Rattle.core_lang.specs.Theory.Checked.{calls_nothing}
 use Rattle.core_lang.specs.declared.value.Value.{Value}
 use Rattle.core_lang.specs.declared.tree.Section.{Section}
+use Rattle.core_lang.specs.declared.typed.Typed.{Typed}
 use Rattle.core_lang.specs.Serial.{Invocation}
 use Rattle.core_lang.specs.WellFormed.{CanCall}
-use Rattle.core_lang.specs.Typing.{lookup, local_types, cell_types, Fit}
+use Rattle.core_lang.specs.Typing.{local_types, cell_types, Fit}
 use Rattle.core_lang.specs.Working.Soundness.{IsTypedState, LeadsToTyped}
-use Rattle.core_lang.specs.Theory.Items.{get_some, lookup_some, contains_at, map_back, not_in_none}
+use Rattle.core_lang.specs.Theory.Items.{get_some, contains_at, map_back, not_in_none}
 use Rattle.flow.specs.Skeletons.{skeleton}
 use Rattle.flow.specs.Flow.{Follows, Before, Plus, one, more}
 use Rattle.flow.specs.Points.{points, scopes, IsScopeAt}
 use Rattle.locks.specs.declared.lock.Lock.{Lock}
 use Rattle.locks.specs.Locks.{lock_of_cell}
-use Rattle.locks.specs.LockPaths.{LockPath, lock_paths, lock_named}
+use Rattle.locks.specs.LockPaths.{LockPath, lock_paths, locks_named}
 use Rattle.inserter.specs.Working.Runs.{IsListed, Run, goes}
 use Rattle.layout.specs.LockCells.{cells_of}
 use Rattle.code.specs.declared.instr.Instr.{Instr}
@@ -34,7 +35,7 @@ use Rattle.code.specs.Working.Ahead.{Goes, Steps, between_points, MayEnd, HasCom
 use Rattle.code.specs.Theory.Safety.{safe_steps, safe_more, steps_more}
 use Rattle.history.specs.Commits.{committed}
 use Rattle.lowering.specs.Plans.{Plan, IsCompiled}
-use Rattle.worlds.specs.Asking.{lock_numbered, to_ask}
+use Rattle.worlds.specs.Asking.{locks_numbered, to_ask}
 use Rattle.worlds.specs.Worlds.{World, Activation, activation, granted, section_at, locks_before, instructed}
 use Rattle.worlds.specs.Worlds.{next_effect, taken}
 use Rattle.worlds.specs.Working.States.{IsSound}
@@ -48,7 +49,7 @@ use Rattle.worlds.proofs.Heaps.{type_at, IsShown, shown}
 use Rattle.worlds.proofs.InTurn.{behind}
 use Rattle.worlds.proofs.Ready.{has_cells}
 use Rattle.worlds.proofs.Steps.{can_call}
-use Rattle.c_threads.specs.Locking.{Pointer, NotesAre, no_notes}
+use Rattle.c_threads.specs.Locking.{Pointer, had, stood_for, noted_at, NotesAre, no_notes}
 use Rattle.c_threads.specs.LockClaims.{TakesWhatIsAsked}
 use Rattle.c_threads.specs.Working.Noted.{WasListed, NotesStand, IsAtNoted, NotesGoOn, running, asking, over, IsNoted}
 use Rattle.c_threads.specs.Working.Noted.{AcquiresNoted, NotesStay}
@@ -114,22 +115,26 @@ module _ (laws : StandingLaws) (plan : Plan) (ok : IsCompiled plan) (k : ℕ) (s
     fit = record { long = stand.fit.long; named = named };
     listed = λ i lock e. listed_on x.number on.to.number i on.follows (stand.listed i lock e);
   } where
-    named : (i : ℕ) (lock : Lock) → slice_get notes i ≡ Some (Some lock) →
-        lock_numbered plan.program section on.later.locals i ≡ Some lock
-    named i lock e =
+    named_by : (i : ℕ) (lock : Lock) → WasListed plan k section x.number i → (o : Option LockPath) →
+        slice_get (lock_paths plan.program section) i ≡ o →
+        Contains (option_map_or (λ (path : LockPath). locks_named path plan.program.shape m.locals) o []) lock →
+        Contains (option_map_or (λ (path : LockPath). locks_named path plan.program.shape on.later.locals) o []) lock
+    named_by i lock was None e c = absurd (not_in_none lock c)
+    named_by i lock was (Some path) e c =
         let program = plan.program in
         let s = state_of m h.heap in
-        let paths = lock_paths program section in
-        let before = stand.fit.named i lock e in
-        let path = lookup_some (slice_get paths i) (λ (path : LockPath). lock_named path program.shape m.locals) lock before in
-        let user = (laws.taking.listed program section path.0).0 (contains_at paths i path.0 path.1) in
-        let was = stand.listed i lock e in
+        let user = (laws.taking.listed program section path).0 (contains_at (lock_paths program section) i path e) in
         let here = laws.going.spots lists section x inside in
         let same =
-        laws.going.names program section x.number user.0 x.point path.0 s on.later (ok.well_formed.scopes k section is) here user.1
-        (λ binds. listed_roots_stay laws.taking plan k was.at x.number i section path.0 ok is was.listed path.1 was.order binds)
+        laws.going.names program section x.number user.0 x.point path s on.later (ok.well_formed.scopes k section is) here user.1
+        (λ binds. listed_roots_stay laws.taking plan k was.at x.number i section path ok is was.listed e was.order binds)
         on.leads in
-        ap (λ o. lookup o (λ (path : LockPath). lock_named path program.shape on.later.locals)) path.1 ∙ (same ∙ path.2)
+        subst (λ ls. Contains ls lock) (sym same) c
+
+    named : (i : ℕ) (lock : Lock) → slice_get notes i ≡ Some (Some lock) →
+        Contains (locks_numbered plan.program section on.later.locals i) lock
+    named i lock e =
+        named_by i lock (stand.listed i lock e) (slice_get (lock_paths plan.program section) i) refl (stand.fit.named i lock e)
 
   comes_on : (x : Spot) → InSection lists section x → (held : List Lock) (m : Machine HeldCells) (notes : List Pointer)
       (h : IsShown plan.program m.memory) → HasCome plan section lists x.number held m → Stand x.number m.locals notes →
@@ -272,7 +277,7 @@ module _ (laws : StandingLaws) (plan : Plan) (ok : IsCompiled plan) (a : Activat
   GoesOn x =
       Goes load_held store_held plan.program.shape its_code Any (IsAtNoted plan k section a.held notes) (operand_need section) x
 
-  kept_by : (x : Effect HeldCells) → a.pending ≡ [] → NotesAre notes (a.held ++ a.pending) → GoesOn x →
+  kept_by : (x : Effect HeldCells) → a.pending ≡ [] → NotesAre plan.program section notes (a.held ++ a.pending) → GoesOn x →
       IsNoted plan (instructed plan a x) notes
   kept_by (Moves m) p are g = record { section = section; is = is; are = are; goes_on = running p g }
   kept_by (Asks point) p are g = absurd g
@@ -284,7 +289,7 @@ module _ (laws : StandingLaws) (plan : Plan) (ok : IsCompiled plan) (a : Activat
   asks_there x = does_same ∙ ap (λ i. act load_held store_held plan.program.shape i a.machine) x.here
 
   pub moves_on : On a notes → a.pending ≡ [] → a.outcome ≡ None → HasCells laws plan ok k section is a.held a.machine →
-      NotesAre notes (a.held ++ a.pending) → ((point : ℕ) → next_effect plan a ≡ Asks point → ⊥) →
+      NotesAre plan.program section notes (a.held ++ a.pending) → ((point : ℕ) → next_effect plan a ≡ Asks point → ⊥) →
       IsNoted plan (instructed plan a (next_effect plan a)) notes
   moves_on on p o has are not =
       elim (moving on p o has) [
@@ -295,7 +300,7 @@ module _ (laws : StandingLaws) (plan : Plan) (ok : IsCompiled plan) (a : Activat
   -- ---- an acquire
 
   module _ (x : IsAtAcquire laws plan ok k section is a.held notes a.machine) (p : a.pending ≡ [])
-      (are : NotesAre notes (a.held ++ a.pending)) where
+      (are : NotesAre plan.program section notes (a.held ++ a.pending)) where
     abbrev number : ℕ
     number = x.at.at.point.number
 
@@ -304,7 +309,7 @@ module _ (laws : StandingLaws) (plan : Plan) (ok : IsCompiled plan) (a : Activat
         let come = x.at.at.come in
         let same : a.held ++ a.pending ≡ a.held = ap (λ xs. a.held ++ xs) p ∙ append-nil a.held in
         acquires_take laws.taking plan k number section a.machine.locals a.held notes ok is come.locals
-        (subst (NotesAre notes) same are) x.at.stand.fit
+        (subst (NotesAre plan.program section notes) same are) x.at.stand.fit
 
     locks_are : to_ask plan.program section plan.ranks a.held a.machine.locals x.list
         ≡ locks_before plan k number a.held a.machine.locals
@@ -369,13 +374,13 @@ module _ (laws : StandingLaws) (plan : Plan) (ok : IsCompiled plan) (a : Activat
           noted = record {
             section = section;
             is = is;
-            are = subst (λ locks. NotesAre takes.after.notes (a.held ++ locks)) takes.calls takes.noted;
+            are = subst (λ locks. NotesAre plan.program section takes.after.notes (a.held ++ locks)) takes.calls takes.noted;
             goes_on = asking now.0 now.1;
           };
         }
 
   pub asks_on : On a notes → a.pending ≡ [] → a.outcome ≡ None → HasCells laws plan ok k section is a.held a.machine →
-      NotesAre notes (a.held ++ a.pending) → (point : ℕ) → next_effect plan a ≡ Asks point → AcquiresNoted plan a point notes
+      NotesAre plan.program section notes (a.held ++ a.pending) → (point : ℕ) → next_effect plan a ≡ Asks point → AcquiresNoted plan a point notes
   asks_on on p o has are point e =
       elim (moving on p o has) [
         | inl g ↦ absurd (subst GoesOn (sym does_same ∙ e) g.1)
@@ -392,7 +397,7 @@ granted_on : (plan : Plan) (a : Activation) (notes : List Pointer) (lock : Lock)
 granted_on plan a notes lock rest values noted want typed = record {
   section = noted.section;
   is = noted.is;
-  are = subst (NotesAre notes) same noted.are;
+  are = subst (NotesAre plan.program noted.section notes) same noted.are;
   goes_on = by noted.goes_on;
 } where
   same : a.held ++ a.pending ≡ (a.held ++ lock ∷ []) ++ rest
@@ -436,10 +441,18 @@ asked_on plan a notes noted = record { section = noted.section; is = noted.is; a
 
 -- ---- a begin
 
-none_noted : (program : _) (section : Section) (i : ℕ) (lock : Lock) → slice_get (no_notes program section) i ≡ Some (Some lock) → ⊥
+none_noted : (program : Typed) (section : Section) (i : ℕ) (lock : Lock) → slice_get (no_notes program section) i ≡ Some (Some lock) → ⊥
 none_noted program section i lock e =
     let r = map_back {B = Pointer} (λ (path : LockPath). None) (lock_paths program section) i (Some lock) e in
     none-some lock r.2
+
+none_stands : (program : Typed) (section : Section) (i : ℕ) (lock : Lock) →
+    Contains (noted_at program section (no_notes program section) i) lock → ⊥
+none_stands program section i lock c = by (slice_get (no_notes program section) i) refl c where
+  by : (o : Option Pointer) → slice_get (no_notes program section) i ≡ o → Contains (had (stood_for program section i) o) lock → ⊥
+  by None e c = not_in_none lock c
+  by (Some None) e c = not_in_none lock c
+  by (Some (Some noted)) e c = none_noted program section i noted e
 
 begun_noted : StandingLaws → (plan : Plan) (begun : ℕ) (call : Invocation) (section : Section) → IsCompiled plan →
     CanCall plan.program call.section call.arguments → section_at plan call.section ≡ Some section →
@@ -449,8 +462,8 @@ begun_noted laws plan begun call section ok can is = record {
   is = is;
   are = record {
     noted = λ lock c. absurd (not_in_none lock c);
-    only = λ i lock e. absurd (none_noted plan.program section i lock e);
-    once = λ i j lock e f. absurd (none_noted plan.program section i lock e);
+    only = λ i lock c. absurd (none_stands plan.program section i lock c);
+    once = λ i j lock c d. absurd (none_stands plan.program section i lock c);
   };
   goes_on = by (begun_on laws.going plan ok begun call section is fit);
 } where

@@ -2,9 +2,11 @@
 use Rattle.std.proofs.Common.{◌≡◌, ◌≢◌, ℕ, ◌+◌, true, false, if◌then◌else◌, List, [], ◌∷◌, ◌++◌, length, map, Option, Some, None}
 use Rattle.std.proofs.Common.{slice_get, set, refl, sym, ap, ◌∙◌, subst, inl, inr}
 use Rattle.std.specs.Prelude.{⊤}
+use Rattle.std.specs.Option.{option_map_or}
 use Rattle.std.proofs.lemmas.List.{length-map, map-append, length_push, append-nil}
 use Rattle.core_lang.specs.declared.value.Value.{Value}
 use Rattle.core_lang.specs.declared.value.Outcome.{Outcome}
+use Rattle.core_lang.specs.declared.tree.Section.{Section}
 use Rattle.core_lang.specs.Serial.{Invocation}
 use Rattle.locks.specs.declared.lock.Lock.{Lock}
 use Rattle.locks.specs.Locks.{among}
@@ -17,7 +19,7 @@ use Rattle.code.specs.Machine.{Undefined, act}
 use Rattle.code.specs.Memory.{HeldCells, value_at, load_held, store_held, load_from, store_to}
 use Rattle.lowering.specs.Plans.{Plan, IsCompiled}
 use Rattle.worlds.specs.Worlds.{World, ThreadState, Activation, HasOpen, activation, code_at, call_at, happens, opening_world}
-use Rattle.worlds.specs.Worlds.{with_active, next_effect, instructed, granted, taken, without, with_back, commit}
+use Rattle.worlds.specs.Worlds.{section_at, with_active, next_effect, instructed, granted, taken, without, with_back, commit}
 use Rattle.worlds.specs.Theory.Steps.{steps_more}
 use Rattle.worlds.specs.Working.States.{IsWell, StepsKeepSound}
 use Rattle.worlds.specs.Working.Ahead.{IsReady, WorldsStayReady}
@@ -30,7 +32,7 @@ use Rattle.c_threads.specs.Working.Noted.{IsNoted, NotesStay}
 use Rattle.c_threads.specs.LockClaims.{EndsGiveBackWhatIsHeld}
 use Rattle.c_threads.specs.Threads.{Entry, Progress, Taking, Over, Leaving, CallInC, ThreadInC, WorldInC, Step, Idle, Waits, Goes, Breaks}
 use Rattle.c_threads.specs.Threads.{with_thread, with_call, without_lock, unlocks, behind, come, acquires, does, group_in, frame, begun_call, answer, entry, ends, step, is_locked, spots_at}
-use Rattle.c_threads.specs.Threads.{with_locked, now_at}
+use Rattle.c_threads.specs.Threads.{with_locked, now_at, given_at}
 use Rattle.c_threads.specs.Claims.{Runs, entry_of}
 use Rattle.c_threads.proofs.Lists.{set_there, none_among}
 use Rattle.c_threads.proofs.Turns.{answered, Turn, idles, starts, relocks, waits, gets, moves, over, gives, returns, turn}
@@ -197,17 +199,22 @@ module _ (laws : StepLaws) (plan : Plan) (ok : IsCompiled plan) where
     -- ---- the end
 
     finishes : (x : ThreadInC) (call : CallInC) (outcome : Outcome) → Runs c t x call → call.progress ≡ Over outcome →
-        Follows (ends c t x call outcome)
+        Follows (ends plan c t x call outcome)
     finishes x call outcome h e =
         let mine = thread_of plan w c s t x h.at in
         let thread = mine.0 in
         let st = call_stands x thread call (Over outcome) h mine.1 e in
         let a = st.1 in
         let over = st.3 in
-        let notes : NotesAre call.notes x.locked = subst (NotesAre call.notes)
+        let section = over.noted.section in
+        let notes : NotesAre plan.program section call.notes x.locked = subst (NotesAre plan.program section call.notes)
         (ap (λ locks. a.held ++ locks) over.pending ∙ (append-nil a.held ∙ over.held)) over.noted.are in
         let from : WorldInC = record c { history = c.history ++ entry t x call outcome ∷ [] } in
-        let u = unlocks_go from x call outcome (given_back call.notes) (all_given_back laws.given call.notes x.locked notes) in
+        let back : given_at plan call ≡ given_back plan.program section call.notes =
+        ap (λ o. option_map_or (λ (z : Section). given_back plan.program z call.notes) o [])
+        (ap (λ (z : Invocation). section_at plan z.section) (sym over.call) ∙ over.noted.is) in
+        let u = unlocks_go from x call outcome (given_at plan call) (subst (GivesBack x.locked) (sym back)
+        (all_given_back laws.given plan.program section call.notes x.locked ok.well_formed notes)) in
         let made : entry_of (commit t thread.step a outcome) ≡ entry t x call outcome =
         λ i. record { thread = t; step = st.0 i; call = over.call i; begun = over.begun i; answer = record { outcome = outcome; prints = over.prints i } } in
         let entries : map entry_of (w.history ++ commit t thread.step a outcome ∷ []) ≡ c.history ++ entry t x call outcome ∷ [] =

@@ -3,20 +3,18 @@ use Rattle.std.proofs.Common.{◌≡◌, ◌<◌, ℕ, suc, List, [], ◌∷◌,
 use Rattle.std.proofs.Common.{slice_get, refl, sym, ap, ◌∙◌, subst, inl, inr}
 use Rattle.std.specs.Prelude.{slice_index, unwrap_or}
 use Rattle.std.specs.List.{Contains}
-use Rattle.std.specs.Option.{option_map, option_map_or}
+use Rattle.std.specs.Option.{option_map_or}
 use Rattle.std.proofs.lemmas.Option.{none-some, same_Some, slice_get_within, get_or_from_slice_get}
 use Rattle.core_lang.specs.declared.value.Value.{Value}
-use Rattle.core_lang.specs.declared.shape.Shape.{Shape}
 use Rattle.core_lang.specs.declared.tree.Section.{Section}
 use Rattle.core_lang.specs.declared.typed.Typed.{Typed}
 use Rattle.core_lang.specs.Typing.{lookup}
 use Rattle.core_lang.specs.WellFormed.{IsWellFormed}
-use Rattle.core_lang.specs.Theory.Items.{lookup_some, map_some, contains_at, at_contained, not_in_none}
+use Rattle.core_lang.specs.Theory.Items.{contains_at, at_contained, not_in_none}
 use Rattle.locks.specs.declared.lock.Lock.{Lock}
-use Rattle.locks.specs.declared.path.Root.{Root}
-use Rattle.locks.specs.declared.path.Root.TheVariants.{GlobalLock, Local as AtLocal}
-use Rattle.locks.specs.LockPaths.{LockPath, lock_paths, lock_from, lock_named, object_at}
-use Rattle.locks.specs.Working.Laws.{PathsHaveClasses, UsedAreListed}
+use Rattle.locks.specs.LockPaths.{LockPath, lock_paths, locks_named}
+use Rattle.locks.specs.Theory.Naming.{named_class}
+use Rattle.locks.specs.Working.Laws.{PathsHaveClasses, UsedAreListed, EachPathOnce}
 use Rattle.lockorder.specs.Edges.{AreRanksOf}
 use Rattle.inserter.specs.Placement.{IsDue, IsListBefore}
 use Rattle.code.specs.Lowering.{lists_at}
@@ -26,15 +24,18 @@ use Rattle.worlds.specs.Worlds.{section_at}
 use Rattle.c_statements.specs.Acquires.{runs}
 use Rattle.c_threads.specs.Locking.{Locking}
 use Rattle.c_threads.specs.LockClaims.{listed_before, AcquiresTakeWhatIsAsked}
-use Rattle.c_threads.proofs.Orders.{takens}
-use Rattle.c_threads.proofs.LockRuns.{joined, Sorted, sorted_from, AreKnown, list_runs, list_joined}
-use Rattle.c_threads.proofs.ClassRuns.{names, HaveAddresses}
-use Rattle.c_threads.proofs.Acquires.{NamesHaveClasses, TellApart, IsGood, all_runs, takens_asked}
+use Rattle.c_threads.proofs.LockRuns.{joined, HasClass, Sorted, sorted_from, AreKnown, list_runs, list_joined}
+use Rattle.c_threads.proofs.LockGiving.{WellFormedRise}
+use Rattle.c_threads.proofs.Acquires.{NamesHaveClasses, TellApart, WholeAlone, AreAddressed, IsGood, wanted, all_runs}
+use Rattle.c_threads.proofs.Acquires.{wanted_is_asked}
 use Rattle.c_threads.proofs.Addresses.{addressed}
+use Rattle.c_threads.proofs.Alone.{whole_alone}
 
 pub record TakingLaws : Type 0 where
   pub classes : PathsHaveClasses
   pub listed : UsedAreListed
+  pub once : EachPathOnce
+  pub rise : WellFormedRise
 
 -- ---- ranks tell classes apart
 
@@ -68,27 +69,14 @@ tell_apart laws program section locals ranks well ok i k a b ha hb e =
 
 -- ---- the class of a lock that a path names
 
-made_class : (class : ℕ) (o : Option ℕ) (lock : Lock) →
-    option_map (λ (n : ℕ). record { class = class; object = n }) o ≡ Some lock → class ≡ lock.class
-made_class class o lock e =
-    let m = map_some (λ (n : ℕ). record { class = class; object = n }) o lock e in ap (λ (l : Lock). l.class) m.2
-
-lock_class : (root : Root) (finals : List ℕ) (class : ℕ) (shape : Shape) (locals : List Value) (lock : Lock) →
-    lock_from root finals class shape locals ≡ Some lock → class ≡ lock.class
-lock_class GlobalLock finals class shape locals lock e =
-    (let same : record { class = class; object = 0 } ≡ lock = cc e in ap (λ (l : Lock). l.class) same)
-lock_class (AtLocal k) finals class shape locals lock e = made_class class (object_at shape locals k finals) lock e
-
 pub names_have_classes : (program : Typed) (section : Section) (locals : List Value) (ranks : List ℕ) →
     NamesHaveClasses program section locals ranks
-names_have_classes program section locals ranks k lock e =
-    let r = lookup_some (slice_get (lock_paths program section) k)
-    (λ (path : LockPath). lock_named path program.shape locals) lock e in
-    record {
-      path = r.0;
-      here = r.1;
-      is = lock_class r.0.root r.0.finals r.0.class program.shape locals lock r.2;
-    }
+names_have_classes program section locals ranks k lock c = by (slice_get (lock_paths program section) k) refl c where
+  by : (o : Option LockPath) → slice_get (lock_paths program section) k ≡ o →
+      Contains (option_map_or (λ (path : LockPath). locks_named path program.shape locals) o []) lock →
+      HasClass (lock_paths program section) k lock.class
+  by None e c = absurd (not_in_none lock c)
+  by (Some path) e c = record { path = path; here = e; is = sym (named_class path program.shape locals lock c) }
 
 -- ---- the list before a point
 
@@ -137,20 +125,21 @@ acquires_take laws plan k point section locals held notes ok is have are fit =
     let gs = runs paths list in
     let classes = names_have_classes program section locals plan.ranks in
     let apart = tell_apart laws program section locals plan.ranks ok.well_formed ok.ranked in
+    let alone : WholeAlone program section locals plan.ranks =
+    whole_alone program section (record { classes = laws.classes; listed = laws.listed; once = laws.once }) ok.well_formed in
     let known = list_known plan ok k point section is in
     let each = list_runs paths plan.ranks apart list (list_sorted plan ok k point section is) known in
     let joins : joined gs ≡ list = list_joined paths plan.ranks apart list in
-    let addresses : HaveAddresses program section locals (joined gs) =
-    λ i c. (let path = known i (subst (λ t. Contains t i) joins c) in
-    addressed program section ok.well_formed locals have laws.listed (k, is) i path.0 path.1) in
+    let addresses : AreAddressed program section locals plan.ranks (joined gs) =
+    λ i path c here not. addressed program section ok.well_formed locals have laws.listed (k, is) i path here not in
     let good : IsGood program section locals plan.ranks notes held =
     record { are = are; long = fit.long; fit = fit.named } in
     let all =
-    all_runs program section locals plan.ranks classes apart gs each addresses notes held good
+    all_runs program section locals plan.ranks classes apart alone (laws.rise program ok.well_formed) gs each addresses notes held good
     (map (λ (path : LockPath). None) paths) [] (unset paths) in
-    let taken = takens plan.ranks held (map (names program section locals) gs) in
+    let taken = wanted program section locals plan.ranks held (joined gs) in
     let asked : taken ≡ to_ask program section plan.ranks held locals list =
-    takens_asked program section locals plan.ranks classes apart held gs each
+    wanted_is_asked program section locals plan.ranks held (joined gs)
     ∙ ap (to_ask program section plan.ranks held locals) joins in
     record {
       after = record { notes = all.noted_after; calls = taken };

@@ -117,7 +117,7 @@ acquire_texts program section paths list =
     (written.runs paths list) (run_says program section paths)))
 
 pub end_texts : EndTextsAreOfStatements
-end_texts section prints count =
+end_texts program section prints paths =
     ap (λ t. codes "  goto begin;\nend:\n" ++ ended_text section prints ++ t ++ count_line prints ++ line (codes "result.trap = trap;") ++ give_line section.result_type
     ++ return_text)
-    (sym (mapped unlock_statement_text Unlock (down count) ∙ downwards unlock_line count))
+    (sym (mapped (unlock_statement_text program paths) Unlock (down (length paths)) ∙ downwards (unlock_line program paths) (length paths)))

@@ -36,7 +36,7 @@ pub data Turn (plan : Plan) (w : WorldInC) (t : ℕ) : Step → Type 0 where
       is_locked w.threads lock ≡ false → Turn plan w t (Goes (with_locked w t x (x.locked ++ lock ∷ []) (now_at c (Taking rest))))
   moves : {x : ThreadInC} {c : CallInC} → Runs w t x c → c.progress ≡ Taking [] →
       Turn plan w t (does plan w t x c (slice_get (code_at plan c.call.section) c.place))
-  over : {x : ThreadInC} {c : CallInC} {outcome : Outcome} → Runs w t x c → c.progress ≡ Over outcome → Turn plan w t (ends w t x c outcome)
+  over : {x : ThreadInC} {c : CallInC} {outcome : Outcome} → Runs w t x c → c.progress ≡ Over outcome → Turn plan w t (ends plan w t x c outcome)
   gives : {x : ThreadInC} {c : CallInC} {outcome : Outcome} {lock : Lock} {rest : List Lock} → Runs w t x c →
       c.progress ≡ Leaving outcome (lock ∷ rest) → Turn plan w t (unlocks w t x c outcome (lock ∷ rest))
   returns : {x : ThreadInC} {c : CallInC} {outcome : Outcome} → Runs w t x c → c.progress ≡ Leaving outcome [] →

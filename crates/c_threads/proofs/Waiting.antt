@@ -16,9 +16,9 @@ use Rattle.worlds.specs.Worlds as worlds
 use Rattle.worlds.specs.Worlds.{World, ThreadState, Activation, HasOpen, code_at, call_at, final, next_effect, holds, holder_from, holder, happens}
 use Rattle.worlds.specs.Waiting.{IsNoWait, RisingGoesOn}
 use Rattle.c_threads.specs.Threads.{Progress, Taking, Over, Leaving, CallInC, ThreadInC, WorldInC, Step, Waits, Goes, Breaks}
+use Rattle.c_threads.specs.Threads.{given_at}
 use Rattle.c_threads.specs.Threads.{is_locked, goes_on, steps_with, thread_steps, step}
 use Rattle.c_threads.specs.Threads.{entry}
-use Rattle.c_threads.specs.Locking.{given_back as gives_back}
 use Rattle.c_threads.specs.Threads.{with_locked, now_at}
 use Rattle.c_threads.specs.Claims.{Runs, HasFittingNumbers}
 use Rattle.c_threads.specs.Claims.{next_lock, asks, asker, NobodyWaitsInACircle, SomeoneGoesOn, pending_of, IsOpen, StandsFor}
@@ -157,7 +157,7 @@ module _ (laws : WaitLaws) (plan : Plan) (ok : IsCompiled plan) (short : HasFitt
   over_leads u y d outcome h e =
       let is = step_is plan c u y d (Over outcome) h e in
       let from : WorldInC = record c { history = c.history ++ entry u y d outcome ∷ [] } in
-      unlocked_leads u from y d outcome _ is (unlocks_unlocked from u y d outcome (gives_back d.notes)) (kept_at u _ is)
+      unlocked_leads u from y d outcome _ is (unlocks_unlocked from u y d outcome (given_at plan d)) (kept_at u _ is)
 
   group_leads : (u : ℕ) (y : ThreadInC) (d : CallInC) → Runs c u y d → d.progress ≡ Taking [] → Leads u
   group_leads u y d h e =

@@ -6,6 +6,7 @@ use Rattle.core_lang.specs.declared.value.Value.{Value}
 use Rattle.core_lang.specs.declared.tree.Section.{Section}
 use Rattle.core_lang.specs.declared.typed.Typed.{Typed}
 use Rattle.core_lang.specs.Typing.{local_types, HaveTypes}
+use Rattle.core_lang.specs.WellFormed.{IsWellFormed}
 use Rattle.flow.specs.Skeletons.{skeleton}
 use Rattle.flow.specs.Flow.{Before}
 use Rattle.locks.specs.declared.lock.Lock.{Lock}
@@ -14,7 +15,7 @@ use Rattle.inserter.specs.Placement.{IsPath}
 use Rattle.code.specs.Machine.{Asks}
 use Rattle.code.specs.Lowering.{lists_at}
 use Rattle.lowering.specs.Plans.{Plan, IsCompiled}
-use Rattle.worlds.specs.Asking.{lock_numbered}
+use Rattle.worlds.specs.Asking.{locks_numbered}
 use Rattle.worlds.specs.Worlds.{Activation, section_at, locks_before, next_effect}
 use Rattle.worlds.specs.Working.InTurn.{RiseBehind}
 use Rattle.worlds.specs.Working.InOrder.{IsInOrder}
@@ -38,20 +39,20 @@ AcquireTextsAreOfStatements =
 -- before what returns the result; the section begins after it
 abbrev pub EndTextsAreOfStatements : Type 0
 EndTextsAreOfStatements =
-    (section : Section) (prints : Bool) (count : ℕ) →
-    end_text section prints count
-    ≡ codes "  goto begin;\nend:\n" ++ ended_text section prints ++ flat_map unlock_statement_text (unlocks count)
-    ++ count_line prints
+    (program : Typed) (section : Section) (prints : Bool) (paths : List LockPath) →
+    end_text program section prints paths
+    ≡ codes "  goto begin;\nend:\n" ++ ended_text section prints
+    ++ flat_map (unlock_statement_text program paths) (unlocks (length paths)) ++ count_line prints
     ++ line (codes "result.trap = trap;") ++ give_line section.result_type ++ return_text
 
 -- ---- an acquire
 
--- the section has a variable h for each lock path, and each noted lock is the one that its path names now
+-- the section has a variable h for each lock path, and each noted lock is one that its path names now
 pub record NotesFit (program : Typed) (section : Section) (locals : List Value)
     (notes : List (Option Lock)) : Type 0 where
   pub long : length notes ≡ length (lock_paths program section)
   pub named : (k : ℕ) (lock : Lock) → slice_get notes k ≡ Some (Some lock) →
-      lock_numbered program section locals k ≡ Some lock
+      Contains (locks_numbered program section locals k) lock
 
 -- the lock paths that are listed before a point of the section of a number
 abbrev pub listed_before : Plan → ℕ → ℕ → List ℕ
@@ -65,7 +66,7 @@ pub record TakesWhatIsAsked (plan : Plan) (k point : ℕ) (section : Section) (l
   pub after : Acquired
   pub is : acquired plan.program section locals (listed_before plan k point) notes ≡ Some after
   pub calls : after.calls ≡ locks_before plan k point held locals
-  pub noted : NotesAre after.notes (held ++ after.calls)
+  pub noted : NotesAre plan.program section after.notes (held ++ after.calls)
   pub fit : NotesFit plan.program section locals after.notes
   pub new : (i : ℕ) (lock : Lock) → slice_get after.notes i ≡ Some (Some lock) →
       (slice_get notes i ≡ Some (Some lock)) ⊎ Contains (listed_before plan k point) i
@@ -76,8 +77,9 @@ abbrev pub AcquiresTakeWhatIsAsked : Type 0
 AcquiresTakeWhatIsAsked =
     (plan : Plan) (k point : ℕ) (section : Section) (locals : List Value) (held : List Lock)
     (notes : List (Option Lock)) → IsCompiled plan → section_at plan k ≡ Some section →
-    HaveTypes plan.program.shape (local_types section.locals.items) locals → NotesAre notes held →
-    NotesFit plan.program section locals notes → TakesWhatIsAsked plan k point section locals held notes
+    HaveTypes plan.program.shape (local_types section.locals.items) locals →
+    NotesAre plan.program section notes held → NotesFit plan.program section locals notes →
+    TakesWhatIsAsked plan k point section locals held notes
 
 -- ---- locks rise
 
@@ -101,12 +103,14 @@ ListedRootsStay =
 
 -- ---- the end
 
--- the calls of AL_UNLOCK at the end are of the locks noted, and of no lock twice
-pub record GivesBackWhatIsHeld (notes : List (Option Lock)) (held : List Lock) : Type 0 where
-  pub exactly : (lock : Lock) → Contains (given_back notes) lock ↔ Contains held lock
-  pub once : AllPairs ◌≢◌ (given_back notes)
+-- the calls of AL_UNLOCK at the end of the section are of the locks noted, and of no lock twice
+pub record GivesBackWhatIsHeld (program : Typed) (section : Section) (notes : List (Option Lock))
+    (held : List Lock) : Type 0 where
+  pub exactly : (lock : Lock) → Contains (given_back program section notes) lock ↔ Contains held lock
+  pub once : AllPairs ◌≢◌ (given_back program section notes)
 
 -- this holds at each end where exactly the locks that are held are noted
 abbrev pub EndsGiveBackWhatIsHeld : Type 0
 EndsGiveBackWhatIsHeld =
-    (notes : List (Option Lock)) (held : List Lock) → NotesAre notes held → GivesBackWhatIsHeld notes held
+    (program : Typed) (section : Section) (notes : List (Option Lock)) (held : List Lock) → IsWellFormed program →
+    NotesAre program section notes held → GivesBackWhatIsHeld program section notes held

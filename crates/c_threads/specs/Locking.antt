@@ -5,7 +5,7 @@
 use Rattle.std.specs.Prelude.{◌≡◌, ℕ, zero, suc, ◌+◌, ◌-◌, ◌==◌, Bool, true, false, nat_lt, nat_le, if◌then◌else◌}
 use Rattle.std.specs.Prelude.{List, [], ◌∷◌, ◌++◌, length, map, slice_get, slice_set, Option, Some, None, codes}
 use Rattle.std.specs.List.{Contains, flat_map, range_with_len}
-use Rattle.std.specs.Option.{option_map_or}
+use Rattle.std.specs.Option.{option_map, option_map_or}
 use Rattle.core_lang.specs.declared.value.Value.{Value}
 use Rattle.core_lang.specs.declared.tree.Section.{Section}
 use Rattle.core_lang.specs.declared.shape.Shape.{Shape}
@@ -13,9 +13,9 @@ use Rattle.core_lang.specs.declared.typed.Typed.{Typed}
 use Rattle.core_lang.specs.Typing.{lookup}
 use Rattle.locks.specs.declared.lock.Lock.{Lock}
 use Rattle.locks.specs.declared.path.Root.{Root}
-use Rattle.locks.specs.declared.path.Root.TheVariants.{GlobalLock, Local as AtLocal}
+use Rattle.locks.specs.declared.path.Root.TheVariants.{GlobalLock, WholeClass, Local as AtLocal}
 use Rattle.locks.specs.LockPaths.{LockPath, lock_paths}
-use Rattle.locks.specs.Locks.{same_lock, global_lock}
+use Rattle.locks.specs.Locks.{same_lock, global_lock, locks_of}
 use Rattle.code.specs.Memory.{load_held, store_held}
 use Rattle.c_language.specs.Meaning.{pointer_in, final_target}
 use Rattle.c_statements.specs.Statements.{line}
@@ -38,14 +38,14 @@ pub data LockStatement : Type 0 where
   -- if m[j] isn't NULL, AL_LOCK is called with it
   Take : ℕ → LockStatement
   -- if h[k] is NULL and the root of path k isn't, the address of its lock goes into h[k], and AL_LOCK is called with
-  -- it
+  -- it. If the path is a whole class, this happens with each lock of the class in turn
   TakeAlone : ℕ → LockStatement
   -- the functions autolock_drop, of the given numbers of locks of m and of h, autolock_order and autolock_lock
   DropAll : ℕ → ℕ → LockStatement
   OrderAll : ℕ → LockStatement
   TakeAll : ℕ → LockStatement
 
--- at the end: if h[k] isn't NULL, AL_UNLOCK is called with it
+-- at the end: if h[k] isn't NULL, AL_UNLOCK is called with it, or with each lock of the class if path k is a whole class
 pub data UnlockStatement : Type 0 where
   Unlock : ℕ → UnlockStatement
 
@@ -122,8 +122,8 @@ module _ (program : Typed) (section : Section) (paths : List LockPath) where
   lock_statement_text (TakeAll n) = call_text (codes "autolock_lock") n []
 
 -- the C of a statement of the end
-abbrev pub unlock_statement_text : UnlockStatement → List ℕ
-unlock_statement_text (Unlock k) = unlock_line k
+abbrev pub unlock_statement_text : Typed → List LockPath → UnlockStatement → List ℕ
+unlock_statement_text program paths (Unlock k) = unlock_line program paths k
 
 -- ---- addresses
 
@@ -159,14 +159,26 @@ address_from shape path None = Some None
 address_from shape path (Some o) =
     lookup (followed shape (Some o) path.finals) (λ owner. Some (Some (record { class = path.class; object = owner })))
 
--- the address of the lock of a path, by the values of the section's locals
+-- the address of the lock of a path, by the values of the section's locals; a whole class has no single one
 abbrev pub address_by : Shape → List Value → Root → LockPath → Option Pointer
 address_by shape locals GlobalLock path = Some (Some (global_lock path.class))
+address_by shape locals (WholeClass s) path = None
 address_by shape locals (AtLocal k) path = lookup (pointer_in (slice_get locals k)) (address_from shape path)
 
 -- the address that a path leads to, walked from its root
 abbrev pub address : Shape → List Value → LockPath → Option Pointer
 address shape locals path = address_by shape locals path.root path
+
+-- the addresses of the locks of a path, one after another. The members of a struct are gone through pool after pool, as
+-- the pools are declared, and each pool from its first member to its last
+abbrev pub addresses_by : Shape → List Value → Root → LockPath → Option (List Pointer)
+addresses_by shape locals GlobalLock path = option_map (λ p. p ∷ []) (address shape locals path)
+addresses_by shape locals (WholeClass s) path = Some (map (λ lock. Some lock) (locks_of shape path.class s))
+addresses_by shape locals (AtLocal k) path = option_map (λ p. p ∷ []) (address shape locals path)
+
+-- the addresses that a path leads to
+abbrev pub addresses : Shape → List Value → LockPath → Option (List Pointer)
+addresses shape locals path = addresses_by shape locals path.root path
 
 -- ---- what statements do
 
@@ -233,11 +245,15 @@ exchange j x =
 abbrev pub take_lock : ℕ → Locking → Option Locking
 take_lock j x = lookup (m_at x j) (λ p. Some (call x p))
 
--- if h[k] holds no lock, as the first argument says, the address goes into h[k], and AL_LOCK is called with it unless
--- it is NULL
-abbrev pub take_unless : Option Pointer → Pointer → ℕ → Locking → Option Locking
-take_unless address (Some noted) k x = Some x
-take_unless address None k x = lookup address (λ p. lookup (note_if p k x) (λ y. Some (call y p)))
+-- each address in turn goes into h[k], and AL_LOCK is called with it, unless it is NULL
+abbrev pub take_each : ℕ → List Pointer → Locking → Option Locking
+take_each k [] x = Some x
+take_each k (p ∷ ps) x = lookup (note_if p k x) (λ y. take_each k ps (call y p))
+
+-- this happens if h[k] holds no lock, as the second argument says
+abbrev pub take_unless : Option (List Pointer) → Pointer → ℕ → Locking → Option Locking
+take_unless addresses (Some noted) k x = Some x
+take_unless addresses None k x = lookup addresses (λ ps. take_each k ps x)
 
 -- the loops of autolock_drop over the first n of m and the first `count` of h, as the fixed part of the file has them
 abbrev pub drop_all : ℕ → ℕ → Locking → Option Locking
@@ -259,6 +275,10 @@ module _ (program : Typed) (section : Section) (locals : List Value) where
   abbrev pub address_at : ℕ → Option Pointer
   address_at k = lookup (slice_get (lock_paths program section) k) (address program.shape locals)
 
+  -- the addresses that it gives
+  abbrev pub addresses_at : ℕ → Option (List Pointer)
+  addresses_at k = lookup (slice_get (lock_paths program section) k) (addresses program.shape locals)
+
   -- what one statement does to h, m and the calls of AL_LOCK
   abbrev pub does : LockStatement → Locking → Option Locking
   does (Ask j k) x = lookup (address_at k) (set_m x j)
@@ -266,7 +286,7 @@ module _ (program : Typed) (section : Section) (locals : List Value) where
   does (Note j k) x = note_lock j k x
   does (Exchange j) x = exchange j x
   does (Take j) x = take_lock j x
-  does (TakeAlone k) x = lookup (h_at x k) (λ noted. take_unless (address_at k) noted k x)
+  does (TakeAlone k) x = lookup (h_at x k) (λ noted. take_unless (addresses_at k) noted k x)
   does (DropAll n count) x = drop_all n count x
   does (OrderAll n) x = order_all n x
   does (TakeAll n) x = take_all n x
@@ -296,29 +316,46 @@ acquired program section locals list notes =
 
 -- ---- notes
 
--- no lock is noted, as at the begin of a section
-abbrev pub no_notes : Typed → Section → List (Option Lock)
-no_notes program section = map (λ path. None) (lock_paths program section)
+-- the locks that a noted lock stands for, by the root of its path: itself, or all of the class that the path is
+abbrev pub stood_by : Shape → Root → ℕ → Lock → List Lock
+stood_by shape GlobalLock class lock = lock ∷ []
+stood_by shape (WholeClass s) class lock = locks_of shape class s
+stood_by shape (AtLocal k) class lock = lock ∷ []
 
--- each of these locks is noted once, and nothing else is
-pub record NotesAre (notes : List (Option Lock)) (locks : List Lock) : Type 0 where
-  pub noted : (lock : Lock) → Contains locks lock → (k : ℕ) × (slice_get notes k ≡ Some (Some lock))
-  pub only : (k : ℕ) (lock : Lock) → slice_get notes k ≡ Some (Some lock) → Contains locks lock
-  pub once : (j k : ℕ) (lock : Lock) → slice_get notes j ≡ Some (Some lock) → slice_get notes k ≡ Some (Some lock) →
-      j ≡ k
+-- the locks that a variable h stands for, if there is one
+abbrev pub had : (Lock → List Lock) → Option Pointer → List Lock
+had stood (Some (Some lock)) = stood lock
+had stood (Some None) = []
+had stood None = []
 
--- ---- the end
+-- for a program and a section of it
+module _ (program : Typed) (section : Section) where
+  -- no lock is noted, as at the begin of a section
+  abbrev pub no_notes : List (Option Lock)
+  no_notes = map (λ path. None) (lock_paths program section)
 
--- AL_UNLOCK, if the variable h[k] has a lock
-abbrev pub unlocked : Option Pointer → List Lock
-unlocked (Some (Some lock)) = lock ∷ []
-unlocked (Some None) = []
-unlocked None = []
+  -- the locks that a lock noted by path k stands for
+  abbrev pub stood_for : ℕ → Lock → List Lock
+  stood_for k lock =
+      option_map_or (λ (path : LockPath). stood_by program.shape path.root path.class lock)
+      (slice_get (lock_paths program section) k) []
 
--- the lock that a statement of the end calls AL_UNLOCK with, if it calls it
-abbrev pub gives : List (Option Lock) → UnlockStatement → List Lock
-gives notes (Unlock k) = unlocked (slice_get notes k)
+  -- the locks that the variable h[k] stands for
+  abbrev pub noted_at : List (Option Lock) → ℕ → List Lock
+  noted_at notes k = had (stood_for k) (slice_get notes k)
 
--- the calls of AL_UNLOCK at the end: each lock noted, that of the last lock path first
-abbrev pub given_back : List (Option Lock) → List Lock
-given_back notes = flat_map (gives notes) (unlocks (length notes))
+  -- each of these locks is noted once, and nothing else is
+  pub record NotesAre (notes : List (Option Lock)) (locks : List Lock) : Type 0 where
+    pub noted : (lock : Lock) → Contains locks lock → (k : ℕ) × Contains (noted_at notes k) lock
+    pub only : (k : ℕ) (lock : Lock) → Contains (noted_at notes k) lock → Contains locks lock
+    pub once : (j k : ℕ) (lock : Lock) → Contains (noted_at notes j) lock → Contains (noted_at notes k) lock → j ≡ k
+
+  -- ---- the end
+
+  -- the locks that a statement of the end calls AL_UNLOCK with, in order
+  abbrev pub gives : List (Option Lock) → UnlockStatement → List Lock
+  gives notes (Unlock k) = noted_at notes k
+
+  -- the calls of AL_UNLOCK at the end: each lock noted, those of the last lock path first
+  abbrev pub given_back : List (Option Lock) → List Lock
+  given_back notes = flat_map (gives notes) (unlocks (length (lock_paths program section)))

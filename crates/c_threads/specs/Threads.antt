@@ -198,10 +198,15 @@ abbrev pub entry : ℕ → ThreadInC → CallInC → Outcome → Entry
 entry t x c outcome =
     record { thread = t; step = length x.answers; call = c.call; begun = c.begun; answer = answer c outcome }
 
+-- the calls of AL_UNLOCK that a call makes at its end
+abbrev pub given_at : Plan → CallInC → List Lock
+given_at plan c =
+    option_map_or (λ (section : Section). given_back plan.program section c.notes) (section_at plan c.call.section) []
+
 -- the end: the entry is appended to the history, and with it the first lock is released, if one is held
-abbrev pub ends : WorldInC → ℕ → ThreadInC → CallInC → Outcome → Step
-ends w t x c outcome =
-    unlocks (record w { history = w.history ++ entry t x c outcome ∷ [] }) t x c outcome (given_back c.notes)
+abbrev pub ends : Plan → WorldInC → ℕ → ThreadInC → CallInC → Outcome → Step
+ends plan w t x c outcome =
+    unlocks (record w { history = w.history ++ entry t x c outcome ∷ [] }) t x c outcome (given_at plan c)
 
 -- a step at the end of a call: the next of its locks is released; if none is left, the call returns
 abbrev pub leaves : WorldInC → ℕ → ThreadInC → CallInC → Outcome → List Lock → Step
@@ -213,7 +218,7 @@ leaves w t x c outcome (lock ∷ rest) = unlocks w t x c outcome (lock ∷ rest)
 abbrev pub goes_on : Plan → WorldInC → ℕ → ThreadInC → CallInC → Progress → Step
 goes_on plan w t x c (Taking (lock ∷ rest)) = locks w t x c lock rest
 goes_on plan w t x c (Taking []) = does plan w t x c (slice_get (code_at plan c.call.section) c.place)
-goes_on plan w t x c (Over outcome) = ends w t x c outcome
+goes_on plan w t x c (Over outcome) = ends plan w t x c outcome
 goes_on plan w t x c (Leaving outcome locks) = leaves w t x c outcome locks
 
 -- the next step of a thread with this current call, or with none

@@ -303,7 +303,8 @@ impl<'a> Lister<'a> {
         requires paths { map lock_path_of listed.paths.now ≡ lock_paths (program_of self.now) listed.section.now }
         requires code { listed.code.now.instructions.items ≡ section_code (lists_of listed) listed.section.now }
         requires rises { IsNonDecreasing listed.code.now.begins.items }
-        ensures { OnOk result (Grows (section_text (program_of self.now) listed.entry.section.now (lists_of listed.entry)
+        ensures { OnOk result
+            (Grows (section_text (program_of self.now) listed.entry.section.now (lists_of listed.entry)
             (front_of places.entry listed.entry.code.now)) out.old out.new) }
     {
         let lines = SectionLines {

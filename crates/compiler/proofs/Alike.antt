@@ -3,7 +3,7 @@
 use Rattle.std.proofs.Common.{◌≡◌, ℕ, List, [], ◌∷◌, ◌++◌, length, Option, Some, None, if◌then◌else◌, refl, sym, ap}
 use Rattle.std.proofs.Common.{subst, ◌∙◌}
 use Rattle.std.specs.Prelude.{map, option_map, slice_get, ◌==◌}
-use Rattle.std.specs.List.{Contains, filter_map, flat_map, cons_option}
+use Rattle.std.specs.List.{Contains, filter_map, flat_map, cons_option, list_any}
 use Rattle.source.specs.declared.fault.Code.{Code}
 use Rattle.core_lang.specs.declared.tree.FieldStep.{FieldStep}
 use Rattle.core_lang.specs.declared.tree.Expr as e
@@ -45,7 +45,7 @@ use Rattle.locks.specs.Accesses.{in_action, accesses_at, accesses}
 use Rattle.locks.specs.Locks.{protection_of}
 use Rattle.locks.specs.LockPaths.{StablePath, OwnerPath, is_fixed, all_final, stable, stable_value, owner_of}
 use Rattle.locks.specs.LockPaths.{owned_path, Binding, binding_at, bindings, or_behind, replaced, all_replaced}
-use Rattle.locks.specs.LockPaths.{normal_form, extended, normal_base, LockPath, global_path, under, class_if_global}
+use Rattle.locks.specs.LockPaths.{normal_form, extended, normal_base, LockPath, global_path, whole_class, under, class_if_global}
 use Rattle.locks.specs.LockPaths.{target_path, lock_path, paths_of, each_once}
 use Rattle.locks.specs.Faults.{HasSection, IsFault, Named, where_at, IsUnstable, IsUnstableOwner, IsOverLimit, unstable}
 use Rattle.locks.specs.Faults.{unstable_owner, one_too_many, unstable_base, unstable_owner_base, over_limit}
@@ -369,15 +369,16 @@ protection_alike program k f =
         viewed core_protection (slice_get x.fields.items f) _
         ∙ sym (looked_at core_field x.fields.items f (λ (y : Field). Some y.protection))
 
-abbrev under_class : LockClass → Protection → Option StablePath → Option LockPath
-under_class (global_lock name) p base = Some (global_path p.class)
-under_class (lock_field k l) p base =
-    option_map (λ (b : StablePath). record { root = root.Local b.root; finals = b.finals; class = p.class }) base
+abbrev under_class : List ℕ → LockClass → Protection → Option StablePath → Option LockPath
+under_class listed (global_lock name) p base = Some (global_path p.class)
+under_class listed (lock_field k l) p base =
+    if list_any (λ number. number == p.class) listed then Some (whole_class p.class k)
+    else option_map (λ (b : StablePath). record { root = root.Local b.root; finals = b.finals; class = p.class }) base
 
-under_alike : (x : the_class.LockClass) (p : the_protection.Protection) (base : Option StablePath) →
-    under x p base ≡ under_class (core_class x) (core_protection p) base
-under_alike (class_case.Global name) p base = refl
-under_alike (class_case.Field k l) p base = refl
+under_alike : (section : the_section.Section) (x : the_class.LockClass) (p : the_protection.Protection) (base : Option StablePath) →
+    under section x p base ≡ under_class (core_section section).listed (core_class x) (core_protection p) base
+under_alike section (class_case.Global name) p base = refl
+under_alike section (class_case.Field k l) p base = refl
 
 abbrev class_by : Program → CellOwner → Option ℕ
 class_by program (owner.Global g) = lookup (slice_get program.globals g) (λ (x : GlobalVariable). Some x.class)
@@ -400,7 +401,7 @@ module _ (program : Program) (section : Section) where
   path_by (at_element array) = lookup (slice_get program.arrays array) (λ (x : Array). Some (global_path x.class))
   path_by (at_field local base k f) =
       lookup (protection_by program k f) (λ (p : Protection). lookup (slice_get program.classes p.class) (λ (x : LockClass).
-      under_class x p (base_by p local base)))
+      under_class section.listed x p (base_by p local base)))
 
 module _ (program : Typed) (section : the_section.Section) where
   base_alike : (p : the_protection.Protection) (local : ℕ) (base : List FieldStep) →
@@ -416,19 +417,19 @@ module _ (program : Typed) (section : the_section.Section) where
   path_alike (at_field local base k f) =
       (λ i. lookup (protection_of program k f) (λ (p : the_protection.Protection). by_class p i))
       ∙ sym (looked core_protection (protection_of program k f) (λ (p : Protection). lookup (slice_get (core_of program).classes p.class) (λ (x : LockClass).
-      under_class x p (base_by (core_of program) (core_section section) p local base))))
+      under_class (core_section section).listed x p (base_by (core_of program) (core_section section) p local base))))
       ∙ ap (λ o. lookup o (λ (p : Protection). lookup (slice_get (core_of program).classes p.class) (λ (x : LockClass).
-      under_class x p (base_by (core_of program) (core_section section) p local base)))) (protection_alike program k f)
+      under_class (core_section section).listed x p (base_by (core_of program) (core_section section) p local base)))) (protection_alike program k f)
     where
       by_class : (p : the_protection.Protection) →
-          lookup (slice_get program.classes.items p.class) (λ (x : the_class.LockClass). under x p (option_map (normal_base section p) (stable section local base)))
-          ≡ lookup (slice_get (core_of program).classes p.class) (λ (x : LockClass). under_class x (core_protection p) (base_by (core_of program) (core_section section) (core_protection p) local base))
+          lookup (slice_get program.classes.items p.class) (λ (x : the_class.LockClass). under section x p (option_map (normal_base section p) (stable section local base)))
+          ≡ lookup (slice_get (core_of program).classes p.class) (λ (x : LockClass). under_class (core_section section).listed x (core_protection p) (base_by (core_of program) (core_section section) (core_protection p) local base))
       by_class p =
-          (λ i. lookup (slice_get program.classes.items p.class) (λ (x : the_class.LockClass). under x p (base_alike p local base i)))
+          (λ i. lookup (slice_get program.classes.items p.class) (λ (x : the_class.LockClass). under section x p (base_alike p local base i)))
           ∙ (λ i. lookup (slice_get program.classes.items p.class) (λ (x : the_class.LockClass).
-          under_alike x p (base_by (core_of program) (core_section section) (core_protection p) local base) i))
+          under_alike section x p (base_by (core_of program) (core_section section) (core_protection p) local base) i))
           ∙ sym (looked_at core_class program.classes.items p.class (λ (x : LockClass).
-          under_class x (core_protection p) (base_by (core_of program) (core_section section) (core_protection p) local base)))
+          under_class (core_section section).listed x (core_protection p) (base_by (core_of program) (core_section section) (core_protection p) local base)))
 
 -- ---- faults
 

@@ -86,7 +86,16 @@ section_alike shape shape' x y x' y' helpers same out locals head out' locals' h
     let name = ap (λ (h : HeadData). h.name) head ∙ ap (λ (z : Section). z.name) same ∙ sym (ap (λ (h : HeadData). h.name) head') in
     let parameters = ap (λ (h : HeadData). h.parameters) head ∙ ap (λ (z : Section). z.parameters) same ∙ sym (ap (λ (h : HeadData). h.parameters) head') in
     let result = ap (λ (h : HeadData). h.result_type) head ∙ ap (λ (z : Section). z.result_type) same ∙ sym (ap (λ (h : HeadData). h.result_type) head') in
-    λ i. record { name = name i; parameters = parameters i; locals = own i; result_type = result i; body = body.0 i; result = body.1 i }
+    let listed = ap (λ (h : HeadData). h.listed) head ∙ ap (λ (z : Section). z.listed) same ∙ sym (ap (λ (h : HeadData). h.listed) head') in
+    λ i. record {
+      name = name i;
+      parameters = parameters i;
+      locals = own i;
+      result_type = result i;
+      listed = listed i;
+      body = body.0 i;
+      result = body.1 i;
+    }
 
 sections_alike : (shape shape' : Shape) (xs ys xs' ys' : List the_section.Section) →
     map core_section shape.helpers.items ≡ map core_section shape'.helpers.items →

@@ -45,7 +45,7 @@ pub return_sync : IsSync ret.the_row
 return_sync = recorded_sync _ _ _ ret.the_type.to_one (struct_sync (shape ret.the_type) (search (sendable, crosses), (expr_sync, tt)))
 
 pub section_sync : IsSync section.the_row
-section_sync = recorded_sync _ _ _ section.the_type.to_one (struct_sync (shape section.the_type) (search (sendable, crosses), (search (sendable, crosses), (search (sendable, crosses, local.the_sync), (search (sendable, crosses, valued.the_sync), (search (sendable, crosses, stmt_sync), (search (sendable, crosses, return_sync), tt)))))))
+section_sync = recorded_sync _ _ _ section.the_type.to_one (struct_sync (shape section.the_type) (search (sendable, crosses), (search (sendable, crosses), (search (sendable, crosses, local.the_sync), (search (sendable, crosses, valued.the_sync), (search (sendable, crosses), (search (sendable, crosses, stmt_sync), (search (sendable, crosses, return_sync), tt))))))))
 
 shape_parts : AllSync (shape shapes.the_type).fields
 shape_parts = (search (sendable, crosses, array.the_sync), (search (sendable, crosses, pool.the_sync), (search (sendable, crosses, object.the_sync), (search (sendable, crosses), (search (sendable, crosses, section_sync), tt)))))

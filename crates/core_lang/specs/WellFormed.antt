@@ -48,8 +48,8 @@ IsCellOf program place (owner.Field object field) =
     (o : Object) × (slice_get program.shape.objects.items object ≡ Some o) × (place ≡ o.cells + field) ×
     ((s : ℕ) × (t : ValueType) × (struct_of program.shape object ≡ Some s) × (field_type program s field ≡ Some t))
 
--- each global, array, pool and object has its cells, its members and its final references, and each cell belongs to a
--- global, an array or an object
+-- each global, array, pool and object has its cells, its members and its final references, each cell belongs to a
+-- global, an array or an object, and the members of a pool come before those of later pools
 pub record IsLaidOut (program : Typed) : Type 0 where
   pub global : (g : ℕ) (x : GlobalVariable) → slice_get program.globals.items g ≡ Some x →
       (t : ValueType) × IsCell program x.cell (owner.Global g) t
@@ -57,6 +57,8 @@ pub record IsLaidOut (program : Typed) : Type 0 where
       (i : ℕ) → i < x.length → IsCell program (x.first + i) (owner.Element a i) x.element
   pub pool : (p : ℕ) (x : Pool) → slice_get program.shape.pools.items p ≡ Some x →
       (i : ℕ) → i < x.length → (o : Object) × (slice_get program.shape.objects.items (x.first + i) ≡ Some o) × (o.pool ≡ p)
+  pub rise : (p q : ℕ) (x y : Pool) → p < q → slice_get program.shape.pools.items p ≡ Some x →
+      slice_get program.shape.pools.items q ≡ Some y → x.first + x.length ≤ y.first
   pub structure : (p : ℕ) (x : Pool) → slice_get program.shape.pools.items p ≡ Some x →
       x.structure < length program.structs.items
   pub object : (o : ℕ) (x : Object) → slice_get program.shape.objects.items o ≡ Some x →

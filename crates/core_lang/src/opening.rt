@@ -13,7 +13,8 @@ use std::alloc::AllocError;
 ///
 /// Out of memory.
 pub fn with_defaults(arguments: Vec<Value>, locals: &[Local]) -> Result<Vec<Value>, AllocError>
-    ensures { IfOk result (λ v. v.items ≡ arguments.items ++ map default_local (drop (length arguments.items) locals.now)) }
+    ensures { IfOk result
+        (λ v. v.items ≡ arguments.items ++ map default_local (drop (length arguments.items) locals.now)) }
 {
     let mut values = arguments;
     for number in values.len()..locals.len() {

@@ -284,6 +284,9 @@ pub struct Section {
     pub locals: Vec<Local>,
     /// The type of its result, if it has one.
     pub result_type: Option<ValueType>,
+    /// The lock classes that it takes whole, each an index into [`crate::typed::Typed::classes`], in the order of the
+    /// head. A helper has none.
+    pub listed: Vec<usize>,
     /// Its statements, without the `return`.
     pub body: Vec<Stmt>,
     /// The `return` at the end of its body, if it has a result.

@@ -163,6 +163,13 @@ module _ (program program' : Typed) (expands : IsExpansion program program') (sa
         let object = laid.pool p y found.1 i (omega (arith, lt, many)) in
         let at : x.first + i ≡ y.first + i = ap (λ (d : PoolData). d.first + i) found.2 in
         (object.0, ap (λ place. slice_get program'.shape.objects.items place) at ∙ ap (λ (xs : List Object). slice_get xs (y.first + i)) expands.places.objects ∙ object.1, object.2);
+    rise = λ p q x y less ex ey.
+        let one = data_there pool_data program.shape.pools.items program'.shape.pools.items p x expands.places.pools ex in
+        let two = data_there pool_data program.shape.pools.items program'.shape.pools.items q y expands.places.pools ey in
+        let low = laid.rise p q one.0 two.0 less one.1 two.1 in
+        let ends = ap (λ (d : PoolData). d.first + d.count) one.2 in
+        let begins = ap (λ (d : PoolData). d.first) two.2 in
+        omega (arith, low, ends, begins);
     structure = λ p x is.
         let found = data_there pool_data program.shape.pools.items program'.shape.pools.items p x expands.places.pools is in
         let named = ap (λ (d : PoolData). d.structure) found.2 in

@@ -95,15 +95,16 @@ pub record ThreadData : Type 0 where
 abbrev pub thread_data : Thread → ThreadData
 thread_data x = record { name = string_bytes x.name; calls = map call_data x.calls.items }
 
--- a section as its callers see it
+-- a section's head: what its callers see, and the lock classes that it takes whole
 pub record HeadData : Type 0 where
   pub name : List ℕ
   pub parameters : ℕ
   pub result_type : Option ValueType
+  pub listed : List ℕ
 
 -- the data of a section's head
 abbrev pub head_data : Section → HeadData
-head_data x = record { name = string_bytes x.name; parameters = x.parameters; result_type = x.result_type }
+head_data x = record { name = string_bytes x.name; parameters = x.parameters; result_type = x.result_type; listed = x.listed.items }
 
 -- what an expansion keeps beside its layout: the same classes, structs, globals and threads, and sections with the same
 -- heads, as data

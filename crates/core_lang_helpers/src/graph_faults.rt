@@ -31,7 +31,8 @@ impl Counter {
         requires { self.old.limit < 2 ^ 32 }
         ensures limit { self.new.limit ≡ self.old.limit }
         ensures count { self.new.count ≡ up_to self.old.limit (self.old.count + more) }
-        ensures faults { least.new ≡ least_of least.old (told_if (first_too_many self.old.limit self.old.count more) Code.LimitExceeded start) }
+        ensures faults { least.new ≡ least_of least.old
+            (told_if (first_too_many self.old.limit self.old.count more) Code.LimitExceeded start) }
     {
         let before = self.count;
         self.count = sum_up_to(self.limit, before, more);
@@ -107,7 +108,8 @@ impl Known<'_> {
     ) -> Result<(), AllocError>
         requires known { IsKnown self.now }
         requires there { from < length self.now.callers.helpers.now }
-        ensures { OnOk result (least.new ≡ least_of least.old (flat_map (recursion_faults (bodies self.now) from) calls.now)) }
+        ensures { OnOk result
+            (least.new ≡ least_of least.old (flat_map (recursion_faults (bodies self.now) from) calls.now)) }
     {
         if any_is_new(calls, *least) {
             let marks = self.callers.leading_to(alloc, from)?;
@@ -173,7 +175,8 @@ impl Known<'_> {
     // Notes the faults of the sections, one after another.
     fn report_sections(&self, sections: &[CallerBody], least: &mut Option<Mistake>)
         requires { IsKnown self.now }
-        ensures { least.new ≡ least_of least.old (flat_map (section_faults (bodies self.now)) (bodies_of sections.now)) }
+        ensures { least.new ≡ least_of least.old
+            (flat_map (section_faults (bodies self.now)) (bodies_of sections.now)) }
     {
         for section in sections {
             self.report_section(section, least);

@@ -49,6 +49,7 @@ pub(crate) fn written_out(
         parameters: section.parameters,
         locals,
         result_type: section.result_type,
+        listed: section.listed.clone()?,
         body: written,
         result,
     })

@@ -223,7 +223,8 @@ impl WrittenScope {
         written: &mut Vec<Stmt>,
     ) -> Result<(), NotWrittenOut>
         requires { first + length arguments.now < 2 ^ 64 }
-        ensures { OnOk result (HasLets start (pairs_of self.now) arguments.now first written.old.items written.new.items) }
+        ensures { OnOk result
+            (HasLets start (pairs_of self.now) arguments.now first written.old.items written.new.items) }
     {
         let mut local = first;
         for argument in arguments {

@@ -47,7 +47,8 @@ impl<'a> BodyWriter<'a> {
         scope: &mut WrittenScope,
         locals: &mut Vec<Local>,
     ) -> Result<Action, NotWrittenOut>
-        ensures written { IfOk result (λ y. WritesBound local value.now (at scope.old locals.old.items) y (at scope.new locals.new.items)) }
+        ensures written { IfOk result
+            (λ y. WritesBound local value.now (at scope.old locals.old.items) y (at scope.new locals.new.items)) }
         ensures locals { OnOk result (HasMore locals.old.items locals.new.items (local_at self.now local)) }
     {
         let value = scope.expr(value)?;
@@ -115,7 +116,8 @@ impl<'a> BodyWriter<'a> {
         scope: &mut WrittenScope,
         locals: &mut Vec<Local>,
     ) -> Result<Action, NotWrittenOut>
-        ensures written { IfOk result (λ y. WritesOne (bodies self.now) action.now (at scope.old locals.old.items) y (at scope.new locals.new.items)) }
+        ensures written { IfOk result (λ y. WritesOne (bodies self.now) action.now (at scope.old locals.old.items) y
+            (at scope.new locals.new.items)) }
         ensures locals { OnOk result (HasMore locals.old.items locals.new.items (locals_of self.now action.now)) }
     {
         match action {
@@ -156,7 +158,8 @@ impl<'a> BodyWriter<'a> {
         scope: &mut WrittenScope,
         locals: &mut Vec<Local>,
     ) -> Result<Vec<Stmt>, NotWrittenOut>
-        ensures written { IfOk result (λ ys. WroteBlock (bodies self.now) block.now (at scope.old locals.old.items) ys.items (at scope.new locals.new.items)) }
+        ensures written { IfOk result (λ ys. WroteBlock (bodies self.now) block.now (at scope.old locals.old.items)
+            ys.items (at scope.new locals.new.items)) }
         ensures locals { OnOk result (HasMore locals.old.items locals.new.items (locals_of_all self.now block.now)) }
     {
         let in_scope = scope.pairs.len();
@@ -174,8 +177,10 @@ impl<'a> BodyWriter<'a> {
         locals: &mut Vec<Local>,
         written: &mut Vec<Stmt>,
     ) -> Result<(), NotWrittenOut>
-        ensures written { OnOk result (WroteAll (bodies self.now) statements.now (at scope.old locals.old.items) written.old.items written.new.items (at scope.new locals.new.items)) }
-        ensures locals { OnOk result (HasMore locals.old.items locals.new.items (locals_of_all self.now statements.now)) }
+        ensures written { OnOk result (WroteAll (bodies self.now) statements.now (at scope.old locals.old.items)
+            written.old.items written.new.items (at scope.new locals.new.items)) }
+        ensures locals { OnOk result
+            (HasMore locals.old.items locals.new.items (locals_of_all self.now statements.now)) }
     {
         for statement in statements {
             self.statement(statement, scope, locals, written)?;
@@ -191,8 +196,10 @@ impl<'a> BodyWriter<'a> {
         locals: &mut Vec<Local>,
         written: &mut Vec<Stmt>,
     ) -> Result<(), NotWrittenOut>
-        ensures written { OnOk result (Wrote (bodies self.now) statement.now (at scope.old locals.old.items) written.old.items written.new.items (at scope.new locals.new.items)) }
-        ensures locals { OnOk result (HasMore locals.old.items locals.new.items (locals_of self.now statement.now.action)) }
+        ensures written { OnOk result (Wrote (bodies self.now) statement.now (at scope.old locals.old.items)
+            written.old.items written.new.items (at scope.new locals.new.items)) }
+        ensures locals { OnOk result
+            (HasMore locals.old.items locals.new.items (locals_of self.now statement.now.action)) }
     {
         if let Action::Call { .. } = &statement.action {
             if self.idle.is_idle_call(&statement.action, self.depth) {
@@ -217,8 +224,10 @@ impl<'a> BodyWriter<'a> {
         locals: &mut Vec<Local>,
         written: &mut Vec<Stmt>,
     ) -> Result<(), NotWrittenOut>
-        ensures written { OnOk result (Wrote (bodies self.now) statement.now (at scope.old locals.old.items) written.old.items written.new.items (at scope.new locals.new.items)) }
-        ensures locals { OnOk result (HasMore locals.old.items locals.new.items (locals_of self.now statement.now.action)) }
+        ensures written { OnOk result (Wrote (bodies self.now) statement.now (at scope.old locals.old.items)
+            written.old.items written.new.items (at scope.new locals.new.items)) }
+        ensures locals { OnOk result
+            (HasMore locals.old.items locals.new.items (locals_of self.now statement.now.action)) }
     {
         let Action::Call {
             helper,
@@ -274,8 +283,10 @@ impl<'a> BodyWriter<'a> {
 
     // Appends a `let` for each parameter.
     fn take_arguments(&self, locals: &mut Vec<Local>) -> Result<(), NotWrittenOut>
-        ensures count { OnOk result (length locals.new.items ≡ length locals.old.items + self.now.section.now.parameters) }
-        ensures locals { OnOk result (HasMore locals.old.items locals.new.items (taken_parameters self.now.section.now)) }
+        ensures count { OnOk result
+            (length locals.new.items ≡ length locals.old.items + self.now.section.now.parameters) }
+        ensures locals { OnOk result
+            (HasMore locals.old.items locals.new.items (taken_parameters self.now.section.now)) }
     {
         for k in 0..self.section.parameters {
             let Some(own) = self.section.locals.get(k) else {
@@ -288,8 +299,10 @@ impl<'a> BodyWriter<'a> {
 
     /// Appends the parameters of a section as they are.
     pub fn keep_parameters(&self, locals: &mut Vec<Local>) -> Result<(), NotWrittenOut>
-        ensures count { OnOk result (length locals.new.items ≡ length locals.old.items + self.now.section.now.parameters) }
-        ensures locals { OnOk result (HasMore locals.old.items locals.new.items (kept_parameters self.now.section.now)) }
+        ensures count { OnOk result
+            (length locals.new.items ≡ length locals.old.items + self.now.section.now.parameters) }
+        ensures locals { OnOk result
+            (HasMore locals.old.items locals.new.items (kept_parameters self.now.section.now)) }
     {
         for k in 0..self.section.parameters {
             let Some(own) = self.section.locals.get(k) else {
@@ -308,7 +321,8 @@ impl<'a> BodyWriter<'a> {
         scope: &mut WrittenScope,
         locals: &mut Vec<Local>,
     ) -> Result<(), NotWrittenOut>
-        ensures received { OnOk result (HasReceived local (at scope.old locals.old.items) (at scope.new locals.new.items)) }
+        ensures received { OnOk result
+            (HasReceived local (at scope.old locals.old.items) (at scope.new locals.new.items)) }
         ensures locals { OnOk result (HasMore locals.old.items locals.new.items (received self.now local result_type)) }
     {
         if let Some(local) = local {
@@ -335,8 +349,10 @@ impl<'a> BodyWriter<'a> {
         written: &mut Vec<Stmt>,
     ) -> Result<Option<Return>, NotWrittenOut>
         requires { length locals.old.items ≡ first + self.now.section.now.parameters }
-        ensures written { IfOk result (λ r. WroteBody (bodies self.now) self.now.section.now first written.old.items written.new.items r (length locals.new.items)) }
-        ensures locals { OnOk result (HasMore locals.old.items locals.new.items (locals_of_all self.now self.now.section.now.body.items)) }
+        ensures written { IfOk result (λ r. WroteBody (bodies self.now) self.now.section.now first written.old.items
+            written.new.items r (length locals.new.items)) }
+        ensures locals { OnOk result
+            (HasMore locals.old.items locals.new.items (locals_of_all self.now self.now.section.now.body.items)) }
     {
         let mut scope = WrittenScope::entered(self.alloc, self.section.parameters, first)?;
         self.statements(&self.section.body, &mut scope, locals, written)?;

@@ -35,13 +35,13 @@ places NestedTooDeep =
 places DeclaredTwice =
     flat_map line
     (codes "At the later of two names of the top level, members of one struct, locals of"
-    ∷ codes "one section or helper. At a local with a name of the top level, even a later"
-    ∷ codes "one."
+    ∷ codes "one section or helper. At the later of two equal classes of a section's list."
+    ∷ codes "At a local with a name of the top level, even a later one."
     ∷ [])
 places UnknownName =
     flat_map line
     (codes "At a name that is not declared, not in scope, or no member of the struct, also"
-    ∷ codes "in an annotation, an `init`, a type or a call."
+    ∷ codes "in an annotation, an `init`, a type, a call or the list of a section's head."
     ∷ [])
 places WrongType =
     flat_map line
@@ -55,6 +55,8 @@ places WrongType =
     ∷ codes "  a local, or is of another type than the final reference."
     ∷ codes "- At the helper's name in a `let`, where it has no result or one of another"
     ∷ codes "  type."
+    ∷ codes "- In the list of a section's head: at the first name, where it is no struct;"
+    ∷ codes "  at the second, where the member is no lock."
     ∷ codes "- At a name of the wrong kind: an array or pool without index, or a section,"
     ∷ codes "  helper, struct or thread, as a value; an index after anything else; a field"
     ∷ codes "  after a top-level name, an int or a lock (at the first name); a declared"
@@ -252,17 +254,18 @@ ways_out UnstableBase =
     (codes "With `let n: ref S = a.next;` the first is E14, since the locks of `a` and `n`"
     ∷ codes "are of one class, unless `next` is under a global lock. For a walk by a `var`"
     ∷ codes "put the fields under a global lock, whose fields any reference may reach, or"
-    ∷ codes "under that of a common owner: Shared owners. A `var` after `where` becomes a"
-    ∷ codes "`let` by `let o: ref S = v;` before it."
+    ∷ codes "under that of a common owner: Shared owners. Or list the class in the"
+    ∷ codes "section's head: Taking a whole class. A `var` after `where` becomes a `let` by"
+    ∷ codes "`let o: ref S = v;` before it."
     ∷ [])
 ways_out LockOrderCycle =
     flat_map line
-    (codes "Ways out has five: all `let`s before all uses, a parameter, a global lock for"
-    ∷ codes "the reference, one for all fields, a final reference. For objects with a"
-    ∷ codes "common owner there is `where`. The `let` that needs a lock of the second class"
-    ∷ codes "later is the statement that the line names or comes after it: if it uses no"
-    ∷ codes "lock of the first class itself, it may go before that statement; else it needs"
-    ∷ codes "another way."
+    (codes "Ways out has six: all `let`s before all uses, a parameter, a global lock for"
+    ∷ codes "the reference, one for all fields, a final reference, the whole class. For"
+    ∷ codes "objects with a common owner there is `where`. The `let` that needs a lock of"
+    ∷ codes "the second class later is the statement that the line names or comes after it:"
+    ∷ codes "if it uses no lock of the first class itself, it may go before that statement;"
+    ∷ codes "else it needs another way."
     ∷ [])
 ways_out LimitExceeded =
     flat_map line

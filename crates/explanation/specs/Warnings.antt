@@ -28,6 +28,10 @@ uncalled_words name = name ++ codes " is never called"
 abbrev pub idle_words : List ℕ → List ℕ
 idle_words name = name ++ codes " is called by no thread"
 
+-- the words of a warning about a class that a section lists
+abbrev pub unneeded_words : List ℕ → List ℕ
+unneeded_words name = name ++ codes " is listed here, and no access of the section needs it"
+
 -- the words of a warning about a loop
 abbrev pub unchanged_words : List ℕ
 unchanged_words = codes "nothing in this loop changes its condition: once entered, it ends only by a trap"
@@ -39,6 +43,7 @@ words_of (says.UselessLock name) = useless_words (string_bytes name)
 words_of (says.UnusedLocal name) = unused_words (string_bytes name)
 words_of (says.UncalledHelper name) = uncalled_words (string_bytes name)
 words_of (says.UncalledSection name) = idle_words (string_bytes name)
+words_of (says.UnneededClass name) = unneeded_words (string_bytes name)
 words_of says.UnchangedCondition = unchanged_words
 
 abbrev pub warning_of : written.Warning → Warning

@@ -30,13 +30,13 @@ first.
         }
         Code::DeclaredTwice => {
             r#"At the later of two names of the top level, members of one struct, locals of
-one section or helper. At a local with a name of the top level, even a later
-one.
+one section or helper. At the later of two equal classes of a section's list.
+At a local with a name of the top level, even a later one.
 "#
         }
         Code::UnknownName => {
             r#"At a name that is not declared, not in scope, or no member of the struct, also
-in an annotation, an `init`, a type or a call.
+in an annotation, an `init`, a type, a call or the list of a section's head.
 "#
         }
         Code::WrongType => {
@@ -50,6 +50,8 @@ in an annotation, an `init`, a type or a call.
   a local, or is of another type than the final reference.
 - At the helper's name in a `let`, where it has no result or one of another
   type.
+- In the list of a section's head: at the first name, where it is no struct;
+  at the second, where the member is no lock.
 - At a name of the wrong kind: an array or pool without index, or a section,
   helper, struct or thread, as a value; an index after anything else; a field
   after a top-level name, an int or a lock (at the first name); a declared
@@ -264,17 +266,18 @@ pub fn ways_out(code: Code) -> &'static str
             r#"With `let n: ref S = a.next;` the first is E14, since the locks of `a` and `n`
 are of one class, unless `next` is under a global lock. For a walk by a `var`
 put the fields under a global lock, whose fields any reference may reach, or
-under that of a common owner: Shared owners. A `var` after `where` becomes a
-`let` by `let o: ref S = v;` before it.
+under that of a common owner: Shared owners. Or list the class in the
+section's head: Taking a whole class. A `var` after `where` becomes a `let` by
+`let o: ref S = v;` before it.
 "#
         }
         Code::LockOrderCycle => {
-            r#"Ways out has five: all `let`s before all uses, a parameter, a global lock for
-the reference, one for all fields, a final reference. For objects with a
-common owner there is `where`. The `let` that needs a lock of the second class
-later is the statement that the line names or comes after it: if it uses no
-lock of the first class itself, it may go before that statement; else it needs
-another way.
+            r#"Ways out has six: all `let`s before all uses, a parameter, a global lock for
+the reference, one for all fields, a final reference, the whole class. For
+objects with a common owner there is `where`. The `let` that needs a lock of
+the second class later is the statement that the line names or comes after it:
+if it uses no lock of the first class itself, it may go before that statement;
+else it needs another way.
 "#
         }
         Code::LimitExceeded => {

@@ -45,10 +45,10 @@ pub fn remedy_of(code: Code) -> &'static str
             "make the reference final, or take a lock of the own struct or a global lock"
         }
         Code::UnstableBase => {
-            "bind the object by a let first: let n: ref S = a.next; in a walk take a common owner by where, or a global lock"
+            "bind the object by a let first: let n: ref S = a.next; in a walk list its class in the head: lock(S.l)"
         }
         Code::LockOrderCycle => {
-            "put the lets before all uses; or take a parameter, a final reference or a global lock"
+            "put the lets before all uses; or take a parameter, or list the class in the section's head: lock(S.l)"
         }
         Code::LimitExceeded => "split what is too large; the limits are fixed",
         Code::FinalWithoutOpeningValue => {

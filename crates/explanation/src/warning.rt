@@ -24,6 +24,8 @@ pub enum Warned {
     UncalledHelper(String),
     /// No thread calls the section of this name, and the program has threads.
     UncalledSection(String),
+    /// No access of the section needs the class of this name, which its head lists.
+    UnneededClass(String),
     /// The loop does not change what its condition reads.
     UnchangedCondition,
 }
@@ -55,6 +57,11 @@ impl Warned {
             Warned::UncalledSection(name) => {
                 said_of(alloc, name.as_str(), " is called by no thread")
             }
+            Warned::UnneededClass(name) => said_of(
+                alloc,
+                name.as_str(),
+                " is listed here, and no access of the section needs it",
+            ),
             Warned::UnchangedCondition => String::from_str(
                 alloc,
                 "nothing in this loop changes its condition: once entered, it ends only by a trap",

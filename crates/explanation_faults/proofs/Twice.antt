@@ -3,13 +3,16 @@ use Rattle.std.proofs.Common.{◌≡◌, ◌∙◌, ℕ, Bool, true, List, [], �
 use Rattle.std.proofs.Common.{ap}
 use Rattle.std.specs.Prelude.{◌||◌}
 use Rattle.std.proofs.lemmas.List.{map-append}
-use Rattle.syntax.specs.Trees.{Ident, Decl, struct, Member}
+use Rattle.syntax.specs.Trees.{Ident, Decl, struct, atomic, helper, Member, ClassName, Section}
 use Rattle.core_lang.specs.Theory.Items.{still_at}
-use Rattle.resolution.specs.Faults.{IsDeclaredTwice, two_decls, two_members, two_locals, top_level}
+use Rattle.resolution.specs.declared.body_limits.BodyLimits.{BodyLimits}
+use Rattle.resolution.specs.Where.{HasBody, of_section, of_helper}
+use Rattle.resolution.specs.Faults.{IsDeclaredTwice, two_decls, two_members, two_classes, two_locals, top_level}
 use Rattle.resolution.specs.Scopes as scopes
 use Rattle.resolution.specs.Scopes.{bears, declared, is_called, local_bears, member_bears, member_name, named}
+use Rattle.resolution.specs.Scopes.{place_of, same_class}
 use Rattle.explanation_names.specs.NameSpaces.{with_name, top_names, inner_names, ident_bears, Repeats, Bears, inside}
-use Rattle.explanation_names.specs.NameSpaces.{outside, IsDeclaredAs, at_the_top, in_one}
+use Rattle.explanation_names.specs.NameSpaces.{ListsAgain, twice_listed, outside, IsDeclaredAs, at_the_top, in_one}
 use Rattle.explanation_faults.proofs.Places.{some_pass, found_passes, passing, passing_at, named_passes, at_front}
 use Rattle.explanation_faults.proofs.Places.{take_front}
 use Rattle.explanation_faults.proofs.Scopes as locals
@@ -88,7 +91,31 @@ locals_borne q (l ∷ ls) (x ∷ xs) e =
     let rest : locals.named ls ≡ texts xs = cc in
     rw (text, locals_borne q ls xs rest) refl
 
--- ---- the four ways
+-- ---- a lock class that a section lists twice
+
+listed_again : (classes before behind : List ClassName) (c : ClassName) (i : ℕ) → classes ≡ before ++ c ∷ behind →
+    place_of same_class before c ≡ Some i →
+    (d : ClassName) × ListsAgain classes c.structure.span.start d
+listed_again classes before behind c i parts found =
+    let p = passing (λ d. same_class d c) 0 before (found_passes (λ d. same_class d c) 0 before i found) in (
+      p.element,
+      record {
+        place = length before;
+        class = c;
+        listed = rw parts (at_front before behind c);
+        starts = refl;
+        before = p.offset;
+        found = rw (parts, take_front before (c ∷ behind)) (passing_at (λ d. same_class d c) before p);
+        is_first = rw parts (still_at before (c ∷ behind) p.offset p.element p.is);
+      },
+    )
+
+in_body : (decls : List Decl) (limits : BodyLimits) (s : Section) (at : ℕ) (c : ClassName) → HasBody decls limits s →
+    ListsAgain s.listed at c → IsDeclaredAs decls at c.structure
+in_body decls limits s at c (of_section has) again = in_one {d = atomic s} has (twice_listed again refl)
+in_body decls limits s at c (of_helper has) again = in_one {d = helper s} has (twice_listed again refl)
+
+-- ---- the five ways
 
 pub first_of_twice : (decls : List Decl) (at : ℕ) → IsDeclaredTwice decls at → (x : Ident) × IsDeclaredAs decls at x
 first_of_twice decls at (two_decls before behind d {x = x} {i = i} parts is found) =
@@ -101,6 +128,9 @@ first_of_twice decls at (two_members {s = s} before behind m {i = i} has parts f
     let r = repeats (map member_name s.members) (map member_name before) (map member_name behind) x names
     (sym (members_borne x.text before) ∙ found_passes (λ m. member_bears m x.text) 0 before i found) in
     (r.0, in_one {d = struct s} has (inside r.1))
+first_of_twice decls at (two_classes {limits = limits} {s = s} before behind c {i = i} body parts found) =
+    let r = listed_again s.listed before behind c i parts found in
+    (r.0.structure, in_body decls limits s at r.0 body r.1)
 first_of_twice decls at (two_locals {sc = sc} {x = x} {f = f} binds found) =
     let l = bound_local decls sc x binds in
     let some = sym (locals_borne x.text sc.locals l.ahead.before l.ahead.named) ∙ named_passes local_bears sc.locals x.text f found in

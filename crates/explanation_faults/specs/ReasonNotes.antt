@@ -123,6 +123,7 @@ count_words n k = (codes "arguments expected: " ++ decimal n) ++ (codes ", given
 abbrev pub fixed_words : Why → List ℕ
 fixed_words why.OwnedInt = codes "expected a reference, found int"
 fixed_words why.OwnerField = codes "this field can change, and a final reference is expected"
+fixed_words why.ListedMember = codes "this member is not a lock"
 fixed_words why.FieldOfInt = codes "an int has no fields"
 fixed_words why.FieldOfLock = codes "a lock has no fields"
 fixed_words why.OperatorOfConditions = codes "this operator stands between conditions"

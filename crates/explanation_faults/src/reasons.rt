@@ -160,6 +160,7 @@ fn fixed_words(why: Why) -> &'static str
     match why {
         Why::OwnedInt => "expected a reference, found int",
         Why::OwnerField => "this field can change, and a final reference is expected",
+        Why::ListedMember => "this member is not a lock",
         Why::FieldOfInt => "an int has no fields",
         Why::FieldOfLock => "a lock has no fields",
         Why::OperatorOfConditions => "this operator stands between conditions",
@@ -262,6 +263,7 @@ fn push_reason(symbols: &SymbolTable, why: Why, words: &mut String) -> Result<()
         Why::Plain => words.push_str(fixed_words(why)),
         Why::OwnedInt => words.push_str(fixed_words(why)),
         Why::OwnerField => words.push_str(fixed_words(why)),
+        Why::ListedMember => words.push_str(fixed_words(why)),
         Why::FieldOfInt => words.push_str(fixed_words(why)),
         Why::FieldOfLock => words.push_str(fixed_words(why)),
         Why::OperatorOfConditions => words.push_str(fixed_words(why)),

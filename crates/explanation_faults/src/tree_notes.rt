@@ -27,11 +27,11 @@ use crate::noted::{gap_note, init_note, lock_note, name_note};
 use crate::reasons::reason_note;
 use explanation::Note;
 use explanation_names::missing_returns::lacking;
-use explanation_names::name_spaces::{inner_names_of, member_name, top_names_of};
+use explanation_names::name_spaces::{classes_in, inner_names_of, member_name, top_names_of};
 use explanation_names::near_name;
 use explanation_names::null_meant::is_null_meant;
 use explanation_names::passed_members::{Sought, passed_member};
-use explanation_names::same_names::{first_of_others, first_of_same};
+use explanation_names::same_names::{first_of_classes, first_of_others, first_of_same};
 use explanation_names::tokens_there::{has_two_fields, name_of, name_there, token_at, token_of};
 use explanation_names::vars::{all_of, section_there, some_assigns, var_named};
 use resolution::why::Why;
@@ -147,6 +147,9 @@ impl<'a> Faulty<'a> {
         let inner = inner_names_of(alloc, decl)?;
         if let Some(first) = first_of_same(&inner, self.at) {
             return Ok(Some(first));
+        }
+        if let Some(first) = first_of_classes(classes_in(decl), self.at) {
+            return Ok(Some(&first.structure));
         }
         if is_body(decl) {
             return Ok(first_of_others(top, &inner, self.at));

@@ -6,6 +6,7 @@ pub mod Added
 pub mod UsesAre
 pub mod Meant
 pub mod Choice
+pub mod ClassFirsts
 pub mod Unknown
 pub mod Ends
 pub mod Firsts

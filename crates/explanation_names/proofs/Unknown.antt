@@ -16,12 +16,12 @@ use Rattle.explanation_names.specs.Working.Laws.{IsSoughtAt, seekers}
 use Rattle.explanation_names.specs.Locals.{LocalInScope, Stands, here, later, in_then, in_else, in_while, declared_by}
 use Rattle.explanation_names.specs.Locals.{param_in_scope, HasBody, of_section, of_helper, HasStmt, in_body}
 use Rattle.explanation_names.specs.Sought.{Use, Uses, a_value, an_element, a_base, a_way, an_owner, an_owner_local}
-use Rattle.explanation_names.specs.Sought.{a_struct, a_helper, a_section, a_pool, a_pool_given, a_field_given, a_lock}
+use Rattle.explanation_names.specs.Sought.{a_struct, a_listed_lock, a_helper, a_section, a_pool, a_pool_given, a_field_given, a_lock}
 use Rattle.explanation_names.specs.Sought.{a_guard, a_guard_way, HasExpr, of_let, of_owned, of_var, of_assign}
 use Rattle.explanation_names.specs.Sought.{of_index, of_if, of_while, of_print, of_return, of_argument, HasHelperCall}
 use Rattle.explanation_names.specs.Sought.{by_let, by_itself, HasPlace, is_read, is_written, HasType, of_global}
-use Rattle.explanation_names.specs.Sought.{of_array, of_pool, of_final, of_field, of_parameter, of_result, of_local}
-use Rattle.explanation_names.specs.Sought.{HasConst, opening, initial, argument, Guards, guards}
+use Rattle.explanation_names.specs.Sought.{of_array, of_pool, of_final, of_field, of_parameter, of_result, of_listed}
+use Rattle.explanation_names.specs.Sought.{of_local, HasConst, opening, initial, argument, Guards, guards}
 use Rattle.explanation_names.proofs.Lists as l
 
 has_at : {A : Type 0} (xs : List A) (k : ℕ) {x : A} → slice_get xs k ≡ Some x → Has xs x
@@ -88,6 +88,7 @@ module _ (decls : List Decl) where
   type (there.of_field has member) = record { locals = []; holds = of_field has member }
   type (there.of_parameter b has) = record { locals = []; holds = of_parameter (body b) has }
   type (there.of_result b is) = record { locals = []; holds = of_result (body b) is }
+  type (there.of_listed b has) = record { locals = []; holds = of_listed (body b) has }
   type (there.of_a_let has) = let s = stmt has in record { locals = s.locals; holds = of_local s.holds first }
   type (there.of_an_owned_let has) = let s = stmt has in record { locals = s.locals; holds = of_local s.holds first }
   type (there.of_a_called_let has) = let s = stmt has in record { locals = s.locals; holds = of_local s.holds first }
@@ -128,6 +129,9 @@ module _ (decls : List Decl) where
   owner_field : {ms : List Member} {f : Ident} → there.NamesOwner decls ms f → IsSoughtAt decls f.span.start
   owner_field (there.names_owner has typed is) = by_one (an_owner (stmt has).holds) first
 
+  class_lock : {ms : List Member} {x : Ident} → there.ListsLock decls ms x → IsSoughtAt decls x.span.start
+  class_lock (there.lists_lock b has is) = by_one (a_listed_lock (body b) has) first
+
   lock_named : {p : Protection} → NamesGlobal decls p → IsSoughtAt decls p.first.span.start
   lock_named (fault.of_global has) = by_one (a_lock has) first
   lock_named (fault.no_member annotates none) = by_one (a_guard (guard annotates).guarded) first
@@ -147,6 +151,7 @@ module _ (decls : List Decl) where
   sought_at at (fault.no_field {fs = fs} before behind f steps k has is walk struct none) =
       by_one (a_way (place has).holds) (subst (λ (xs : List Ident). Has xs f) (sym is) (among before behind f))
   sought_at at (fault.no_final names none) = owner_field names
+  sought_at at (fault.no_member_listed lists none) = class_lock lists
   sought_at at (fault.no_owner has none) = by_one (an_owner_local (stmt has).holds) first
   sought_at at (fault.no_lock names none) = lock_named names
   sought_at at (fault.no_field_passed walk none) = member_passed walk

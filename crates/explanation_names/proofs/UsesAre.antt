@@ -14,26 +14,26 @@ use Rattle.syntax.specs.Trees.{ValueType, int_type, ref_type, Const, int_const, 
 use Rattle.syntax.specs.Trees.{Expr, int, null, place, paren, prefix, chain, compare, Place, lone, element, path, Links}
 use Rattle.syntax.specs.Trees.{no_links, link, HelperCall, Stmt, let_local, let_owned, let_call, var_local, assign}
 use Rattle.syntax.specs.Trees.{if_then, while, print, return_value, Stmts, no_stmts, stmt, no_else, else_do, Protection}
-use Rattle.syntax.specs.Trees.{Member, lock_member, final_member, field_member, Struct, Variable, Init, Section, Call}
-use Rattle.syntax.specs.Trees.{Item, call, repeat, Items, no_items, item, Decl, lock, struct, global, array, pool, init}
+use Rattle.syntax.specs.Trees.{Member, lock_member, final_member, field_member, Struct, Variable, Init, ClassName}
+use Rattle.syntax.specs.Trees.{Section, Call, Item, call, repeat, Items, no_items, item, Decl, lock, struct, global, array, pool, init}
 use Rattle.syntax.specs.Trees.{atomic, helper, thread}
 use Rattle.syntax.specs.Trees as tree
 use Rattle.explanation_names.specs.declared.sought.NameKind.TheVariants as kind
 use Rattle.explanation_names.specs.Locals.{LocalInScope, declared_by, param_in_scope, Stands, here, later, in_then}
 use Rattle.explanation_names.specs.Locals.{in_else, in_while, HasBody, of_section, of_helper, HasStmt, in_body}
-use Rattle.explanation_names.specs.Sought.{Use, of_kind, by_dots, by_init, by_owner, Uses, a_value, an_element, a_base}
-use Rattle.explanation_names.specs.Sought.{a_way, an_owner, an_owner_local, a_struct, a_helper, a_section, a_pool}
+use Rattle.explanation_names.specs.Sought.{Use, of_kind, by_dots, by_init, by_owner, by_class, Uses, a_value, an_element, a_base}
+use Rattle.explanation_names.specs.Sought.{a_listed_lock, a_way, an_owner, an_owner_local, a_struct, a_helper, a_section, a_pool}
 use Rattle.explanation_names.specs.Sought.{a_pool_given, a_field_given, a_lock, a_guard, a_guard_way, HasExpr, of_let}
 use Rattle.explanation_names.specs.Sought.{of_owned, of_var, of_assign, of_index, of_if, of_while, of_print, of_return}
 use Rattle.explanation_names.specs.Sought.{of_argument, HasHelperCall, by_let, by_itself, HasPlace, is_read, is_written}
 use Rattle.explanation_names.specs.Sought.{HasType, of_global, of_array, of_pool, of_final, of_field, of_parameter}
-use Rattle.explanation_names.specs.Sought.{of_result, of_local, HasConst, opening, initial, argument, Guards, guards}
+use Rattle.explanation_names.specs.Sought.{of_result, of_listed, of_local, HasConst, opening, initial, argument, Guards, guards}
 use Rattle.explanation_names.specs.Working.UsesFound.{uses_in, uses_at, uses_behind, uses_of_type, uses_of_call}
 use Rattle.explanation_names.specs.Working.UsesFound.{uses_of_local, uses_by, uses_in_blocks, uses_in_else}
 use Rattle.explanation_names.specs.Working.UsesFound.{uses_in_stmts, uses_of_body, uses_of_const, uses_of_value}
 use Rattle.explanation_names.specs.Working.UsesFound.{uses_of_result, uses_of_section_call, uses_of_item, uses_of_items}
 use Rattle.explanation_names.specs.Working.UsesFound.{uses_of_annotation, uses_of_guard, uses_of_member, uses_of_param}
-use Rattle.explanation_names.specs.Working.UsesFound.{uses_of_section, uses_of_decl}
+use Rattle.explanation_names.specs.Working.UsesFound.{uses_of_class, uses_of_section, uses_of_decl}
 use Rattle.explanation_names.proofs.Lists as l
 
 -- ---- in expressions
@@ -175,9 +175,19 @@ module _ (decls : List Decl) {u : Use} where
   section_found (of_section has) h = decl_found has h
   section_found (of_helper has) h = decl_found has h
 
+  before_listed : {s : Section} → HasBody decls s →
+      Has ((uses_of_body s ++ flat_map (uses_of_param []) s.params) ++ uses_of_result [] s.result) u → IsFound decls u
+  before_listed {s = s} body h =
+      section_found body (l.in_left ((uses_of_body s ++ flat_map (uses_of_param []) s.params) ++ uses_of_result [] s.result) (flat_map (uses_of_class []) s.listed) h)
+
+  class_found : {s : Section} {c : ClassName} → HasBody decls s → Has s.listed c → Has (uses_of_class [] c) u →
+      IsFound decls u
+  class_found {s = s} body has h =
+      section_found body (l.in_right ((uses_of_body s ++ flat_map (uses_of_param []) s.params) ++ uses_of_result [] s.result) (flat_map (uses_of_class []) s.listed) (l.flat_in (uses_of_class []) s.listed has h))
+
   before_result : {s : Section} → HasBody decls s → Has (uses_of_body s ++ flat_map (uses_of_param []) s.params) u →
       IsFound decls u
-  before_result {s = s} body h = section_found body (l.in_left (uses_of_body s ++ flat_map (uses_of_param []) s.params) (uses_of_result [] s.result) h)
+  before_result {s = s} body h = before_listed body (l.in_left (uses_of_body s ++ flat_map (uses_of_param []) s.params) (uses_of_result [] s.result) h)
 
   stmt_found : {xs : List LocalInScope} {t : Stmt} → HasStmt decls xs t → Has (uses_by xs t) u → IsFound decls u
   stmt_found (in_body {s = s} body stands) h =
@@ -223,8 +233,9 @@ module _ (decls : List Decl) {u : Use} where
   type_found (of_parameter {s = s} body has) h =
       before_result body (l.in_right (uses_of_body s) (flat_map (uses_of_param []) s.params) (l.flat_in (uses_of_param []) s.params has h))
   type_found (of_result {s = s} body is) h =
-      section_found body (l.in_right (uses_of_body s ++ flat_map (uses_of_param []) s.params) (uses_of_result [] s.result)
+      before_listed body (l.in_right (uses_of_body s ++ flat_map (uses_of_param []) s.params) (uses_of_result [] s.result)
       (subst (λ (o : Option ValueType). Has (uses_of_result [] o) u) (sym is) h))
+  type_found (of_listed {c = c} body has) h = class_found body has (l.in_left (uses_of_type [] (ref_type c.structure)) (by_class c.structure c.lock ∷ []) h)
   type_found {xs = xs} (of_local {s = s} has declares) h = stmt_found has (declared_found xs s declares h)
 
   items_found : {is : Items} {c : Call} → InItems is c → Has (uses_of_section_call [] c) u → Has (uses_of_items [] is) u
@@ -267,6 +278,7 @@ is_found decls (an_owner {xs = xs} {l = k} {o = o} has) =
 is_found decls (an_owner_local {xs = xs} {l = k} {o = o} has) =
     stmt_found decls has (l.in_right (uses_of_local xs k) (by_owner k.value_type o.field ∷ of_kind kind.Local xs o.local ∷ []) (further first))
 is_found decls (a_struct has) = type_found decls has first
+is_found decls (a_listed_lock body has) = class_found decls body has (further first)
 is_found decls (a_helper has) = call_found decls has first
 is_found decls (a_section has) = section_call_found decls has first
 is_found decls (a_pool has) = const_found decls has first
@@ -394,13 +406,21 @@ module _ (decls : List Decl) where
   result_used body (Some t) is h = type_used t (of_result body is) h
   result_used body None is h = elim h [ ]
 
+  class_used : {u : Use} {s : Section} → HasBody decls s → (c : ClassName) → Has s.listed c →
+      Has (uses_of_class [] c) u → Uses decls u
+  class_used body c has first = a_struct (of_listed body has)
+  class_used body c has (further first) = a_listed_lock body has
+  class_used body c has (further (further h)) = elim h [ ]
+
   section_used : {u : Use} (s : Section) → HasBody decls s → Has (uses_of_section [] s) u → Uses decls u
   section_used {u = u} s body h =
-      l.either (uses_of_body s ++ flat_map (uses_of_param []) s.params) (uses_of_result [] s.result)
+      l.either ((uses_of_body s ++ flat_map (uses_of_param []) s.params) ++ uses_of_result [] s.result) (flat_map (uses_of_class []) s.listed)
+      (l.either (uses_of_body s ++ flat_map (uses_of_param []) s.params) (uses_of_result [] s.result)
       (l.either (uses_of_body s) (flat_map (uses_of_param []) s.params)
       (from_stmts (Uses decls u) (map param_in_scope s.params) s.body.stmts (λ ys t stands. stmt_used t (in_body body stands)))
       (l.flat_from (uses_of_param []) s.params (λ p has. type_used p.value_type (of_parameter body has))))
-      (result_used body s.result refl) h
+      (result_used body s.result refl))
+      (l.flat_from (uses_of_class []) s.listed (class_used body)) h
 
   init_used : {u : Use} {i : Init} → Has decls (init i) →
       Has (of_kind kind.Pool [] i.pool ∷ by_init i.pool i.field ∷ []) u → Uses decls u

@@ -8,7 +8,7 @@ use Rattle.syntax.specs.Trees.{Decl, Protection}
 use Rattle.explanation_names.specs.declared.members.Role.{Role}
 use Rattle.explanation_names.specs.declared.members.Role.TheVariants as role
 use Rattle.explanation_names.specs.Locals.{LocalInScope}
-use Rattle.explanation_names.specs.Sought.{Use, by_dots, by_init, by_annotation, by_owner}
+use Rattle.explanation_names.specs.Sought.{Use, by_dots, by_init, by_annotation, by_owner, by_class}
 
 -- the members of the struct to which a type refers
 abbrev pub members_behind : List Decl → ValueType → Option (List Member)
@@ -29,7 +29,7 @@ pub data Leads (decls : List Decl) (at : ℕ) : List Member → List Ident → L
       over decls (the_member ms f.text) ≡ Some ns → Leads decls at ns fs to → Leads decls at ms (f ∷ fs) to
 
 -- the use of a name looks up a member in this role among these, by a name that begins at the byte: after a local's
--- name, in an `init`, along an annotation from its own struct on, or after `where`
+-- name, in an `init`, along an annotation from its own struct on, after `where`, or in a list of lock classes
 pub data IsAmong (decls : List Decl) (at : ℕ) : Use → Role → List Member → Type 0 where
   behind_dots : {xs : List LocalInScope} {l : LocalInScope} {x : Ident} {fs : List Ident} {ms to : List Member} →
       Has xs l → l.name.text ≡ x.text → members_behind decls l.value_type ≡ Some ms → Leads decls at ms fs to →
@@ -41,9 +41,11 @@ pub data IsAmong (decls : List Decl) (at : ℕ) : Use → Role → List Member �
       IsAmong decls at (by_annotation s p) role.Lock to
   behind_where : {t : ValueType} {f : Ident} {ms : List Member} →
       f.span.start ≡ at → members_behind decls t ≡ Some ms → IsAmong decls at (by_owner t f) role.Owner ms
+  in_list : {s f : Ident} {ms : List Member} →
+      f.span.start ≡ at → members_of decls s ≡ Some ms → IsAmong decls at (by_class s f) role.Class ms
 
 -- the name of a member, if it can have this role. A value is a field or a final reference. An annotation has a lock, or
--- a final reference on the way to one. After `where` is a final reference
+-- a final reference on the way to one. After `where` is a final reference. A lock class has a lock
 abbrev pub name_as : Role → Member → Option Ident
 name_as role.Value (lock_member x) = None
 name_as role.Value (final_member f) = Some f.name
@@ -54,3 +56,6 @@ name_as role.Lock (field_member f) = None
 name_as role.Owner (lock_member x) = None
 name_as role.Owner (final_member f) = Some f.name
 name_as role.Owner (field_member f) = None
+name_as role.Class (lock_member x) = Some x
+name_as role.Class (final_member f) = None
+name_as role.Class (field_member f) = None

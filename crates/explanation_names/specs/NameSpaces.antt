@@ -2,9 +2,9 @@
 use Rattle.std.specs.Prelude.{◌≡◌, ℕ, Bool, true, List, [], ◌∷◌, ◌++◌, map, take, slice_get, Option, Some, None}
 use Rattle.std.specs.Str.{bytes_eq}
 use Rattle.syntax.specs.Trees.{Ident, Stmt, let_local, let_owned, let_call, var_local, assign, if_then, while, print}
-use Rattle.syntax.specs.Trees.{return_value, call, Stmts, no_stmts, stmt, Otherwise, no_else, else_do, Param, Section}
-use Rattle.syntax.specs.Trees.{Decl, struct, atomic, helper}
-use Rattle.resolution.specs.Scopes.{place_of, declared, has_body, member_name}
+use Rattle.syntax.specs.Trees.{return_value, call, Stmts, no_stmts, stmt, Otherwise, no_else, else_do, Param}
+use Rattle.syntax.specs.Trees.{ClassName, Section, Decl, struct, atomic, helper}
+use Rattle.resolution.specs.Scopes.{place_of, declared, has_body, member_name, same_class}
 use Rattle.resolution.specs.Where.{Has}
 
 -- ---- names that must differ
@@ -54,6 +54,12 @@ inner_names (atomic s) = local_names s
 inner_names (helper s) = local_names s
 inner_names _ = []
 
+-- the lock classes that a section or a helper lists
+abbrev pub classes_in : Decl → List ClassName
+classes_in (atomic s) = s.listed
+classes_in (helper s) = s.listed
+classes_in _ = []
+
 -- ---- the first
 
 -- the name has this text
@@ -80,10 +86,21 @@ pub record Bears (others names : List Ident) (at : ℕ) (x : Ident) : Type 0 whe
   pub found : place_of ident_bears others name.text ≡ Some first
   pub is_first : slice_get others first ≡ Some x
 
+-- a lock class of the list starts at this byte, and `first` is the first equal one before it
+pub record ListsAgain (classes : List ClassName) (at : ℕ) (first : ClassName) : Type 0 where
+  pub place : ℕ
+  pub class : ClassName
+  pub listed : slice_get classes place ≡ Some class
+  pub starts : class.structure.span.start ≡ at
+  pub before : ℕ
+  pub found : place_of same_class (take place classes) class ≡ Some before
+  pub is_first : slice_get classes before ≡ Some first
+
 -- a name inside a declaration starts at this byte, and x is the first equal name that it must differ from: one of the
--- others inside; or, for a local, one of the top level
+-- others inside; for a listed lock class, the struct's name of an equal one; or, for a local, one of the top level
 pub data IsDeclaredIn (top : List Ident) (d : Decl) (at : ℕ) (x : Ident) : Type 0 where
   inside : Repeats (inner_names d) at x → IsDeclaredIn top d at x
+  twice_listed : {first : ClassName} → ListsAgain (classes_in d) at first → first.structure ≡ x → IsDeclaredIn top d at x
   outside : has_body d ≡ true → Bears top (inner_names d) at x → IsDeclaredIn top d at x
 
 -- a name of the program starts at this byte, and x is the first equal name that it must differ from

@@ -8,21 +8,22 @@ use Rattle.syntax.specs.Trees.{Ident, ValueType, ref_type, Const, member_const, 
 use Rattle.syntax.specs.Trees.{place, Local, Owner, HelperCall, CalledLocal, Stmt, let_local, let_owned, let_call}
 use Rattle.syntax.specs.Trees.{var_local, assign, if_then, while, print, return_value, Stmts, Otherwise, Protection}
 use Rattle.syntax.specs.Trees.{Final, Field, final_member, field_member, Struct, Variable, Array, Pool, Init, Param}
-use Rattle.syntax.specs.Trees.{Section, Call, Decl, struct, global, array, pool, init}
+use Rattle.syntax.specs.Trees.{ClassName, Section, Call, Decl, struct, global, array, pool, init}
 use Rattle.syntax.specs.Trees as tree
 use Rattle.explanation_names.specs.declared.sought.NameKind.{NameKind}
 use Rattle.explanation_names.specs.declared.sought.NameKind.TheVariants as kind
 use Rattle.explanation_names.specs.Locals.{LocalInScope, HasBody, HasStmt, declared_by}
 
 -- the use of a name: it is looked up as a thing of a kind, with these locals in scope; or as a member of a struct, by
--- the names after a local's, by the field that an `init` gives, by those of an annotation in a struct, or by the one
--- after `where` at a local of this type
+-- the names after a local's, by the field that an `init` gives, by those of an annotation in a struct, by the one after
+-- `where` at a local of this type, or by the lock's name of a listed lock class
 pub data Use : Type 0 where
   of_kind : NameKind → List LocalInScope → (name : Ident) → Use
   by_dots : List LocalInScope → (local : Ident) → (fields : List Ident) → Use
   by_init : (pool field : Ident) → Use
   by_annotation : (structure : Ident) → Protection → Use
   by_owner : ValueType → (field : Ident) → Use
+  by_class : (structure lock : Ident) → Use
 
 -- a call of a helper
 pub data HasHelperCall (decls : List Decl) : List LocalInScope → HelperCall → Type 0 where
@@ -55,7 +56,7 @@ pub data HasPlace (decls : List Decl) : List LocalInScope → Place → Type 0 w
       HasExpr decls xs e → Within w e v (place p) → HasPlace decls xs p
   is_written : {xs : List LocalInScope} {p : Place} {e : Expr} → HasStmt decls xs (assign p e) → HasPlace decls xs p
 
--- a type
+-- a type; the struct's name of a listed lock class counts as one
 pub data HasType (decls : List Decl) : List LocalInScope → ValueType → Type 0 where
   of_global : {v : Variable} → Has decls (global v) → HasType decls [] v.value_type
   of_array : {a : Array} → Has decls (array a) → HasType decls [] a.value_type
@@ -66,6 +67,7 @@ pub data HasType (decls : List Decl) : List LocalInScope → ValueType → Type 
       Has decls (struct s) → Has s.members (field_member f) → HasType decls [] f.value_type
   of_parameter : {s : Section} {p : Param} → HasBody decls s → Has s.params p → HasType decls [] p.value_type
   of_result : {s : Section} {t : ValueType} → HasBody decls s → s.result ≡ Some t → HasType decls [] t
+  of_listed : {s : Section} {c : ClassName} → HasBody decls s → Has s.listed c → HasType decls [] (ref_type c.structure)
   of_local : {xs : List LocalInScope} {s : Stmt} {l : LocalInScope} →
       HasStmt decls xs s → Has (declared_by s) l → HasType decls xs l.value_type
 
@@ -99,6 +101,9 @@ pub data Uses (decls : List Decl) : Use → Type 0 where
   -- a type names a struct
   a_struct : {xs : List LocalInScope} {x : Ident} → HasType decls xs (ref_type x) →
       Uses decls (of_kind kind.Struct xs x)
+  -- a listed lock class names a member of its struct
+  a_listed_lock : {s : Section} {c : ClassName} →
+      HasBody decls s → Has s.listed c → Uses decls (by_class c.structure c.lock)
   -- calls name a helper, or a section
   a_helper : {xs : List LocalInScope} {c : HelperCall} →
       HasHelperCall decls xs c → Uses decls (of_kind kind.Helper xs c.helper)

@@ -2,15 +2,15 @@
 
 ghost use Rattle.std.specs.List.{flat_map};
 ghost use Rattle.std.specs.Prelude.{map};
-ghost use Rattle.syntax.specs.Views.{const_of, decl_of, ident, item_of, items_of, member_of, option_of, param_of, protection_of, section_of};
-ghost use Rattle.explanation_names.specs.Working.UsesFound.{uses_of_annotation, uses_of_const, uses_of_decl, uses_of_item, uses_of_items, uses_of_member, uses_of_param, uses_of_section};
+ghost use Rattle.syntax.specs.Views.{class_name_of, const_of, decl_of, ident, item_of, items_of, member_of, option_of, param_of, protection_of, section_of};
+ghost use Rattle.explanation_names.specs.Working.UsesFound.{uses_of_annotation, uses_of_class, uses_of_const, uses_of_decl, uses_of_item, uses_of_items, uses_of_member, uses_of_param, uses_of_section};
 ghost use Rattle.explanation_names.specs.Working.Values.{Says, locals_at, uses_of_members};
 
 use crate::found::FoundNames;
 use crate::search::NameSearch;
 use crate::sought::NameKind;
 use crate::statements::push_params;
-use syntax::tree::{Const, Decl, Item, Member, Name, Param, Protection, Section};
+use syntax::tree::{ClassName, Const, Decl, Item, Member, Name, Param, Protection, Section};
 
 impl<'s, 't> NameSearch<'s, 't> {
     fn in_const(&self, c: &Const, found: &mut FoundNames<'t>)
@@ -96,6 +96,22 @@ impl<'s, 't> NameSearch<'s, 't> {
         }
     }
 
+    fn in_class(&self, class: &ClassName, found: &mut FoundNames<'t>)
+        ensures { Says self.now found.old found.new (uses_of_class (locals_at self.now) (class_name_of class.now)) }
+    {
+        self.of_kind(NameKind::Struct, &class.structure, found);
+        self.by_class(class, found);
+    }
+
+    fn in_classes(&self, classes: &[ClassName], found: &mut FoundNames<'t>)
+        ensures { Says self.now found.old found.new
+            (flat_map (uses_of_class (locals_at self.now)) (map class_name_of classes.now)) }
+    {
+        for class in classes {
+            self.in_class(class, found);
+        }
+    }
+
     fn in_section(&self, section: &'t Section, found: &mut FoundNames<'t>)
         ensures { Says self.now found.old found.new (uses_of_section (locals_at self.now) (section_of section.now)) }
     {
@@ -106,6 +122,7 @@ impl<'s, 't> NameSearch<'s, 't> {
         if let Some(t) = &section.result {
             self.in_type(t, found);
         }
+        self.in_classes(&section.listed, found);
     }
 
     fn in_decl(&self, decl: &'t Decl, found: &mut FoundNames<'t>)

@@ -8,12 +8,12 @@ ghost use Rattle.types_symbols.specs.{decls_of};
 ghost use Rattle.syntax.specs.Views.{ident, init_of, member_of, protection_of, type_of};
 ghost use Rattle.explanation_names.specs.Working.Found.{names_if, some_begin};
 ghost use Rattle.explanation_names.specs.Members.{members_behind, name_as};
-ghost use Rattle.explanation_names.specs.Sought.{by_annotation, by_init, by_owner};
+ghost use Rattle.explanation_names.specs.Sought.{by_annotation, by_class, by_init, by_owner};
 ghost use Rattle.explanation_names.specs.Working.Values.{Adds, Says, along_from, behind_one, dots_at, ident_at, members_at, members_in_pool, next_from};
 
 use crate::found::FoundNames;
 use crate::search::{LocalInScope, NameSearch, begins};
-use syntax::tree::{Decl, Init, Member, Name, Path, Protection, ValueType};
+use syntax::tree::{ClassName, Decl, Init, Member, Name, Path, Protection, ValueType};
 use types_symbols::members::Structure;
 use types_symbols::table::SymbolTable;
 
@@ -26,6 +26,8 @@ pub enum Role {
     Lock,
     /// After `where`: a final reference.
     Owner,
+    /// In a list of lock classes: a lock.
+    Class,
 }
 
 /// The struct of this name.
@@ -89,6 +91,10 @@ fn name_as(role: Role, member: &Member) -> Option<&Name>
         Role::Owner => match member {
             Member::Final(reference) => Some(&reference.name),
             Member::Lock(_) | Member::Field(_) => None,
+        },
+        Role::Class => match member {
+            Member::Lock(name) => Some(name),
+            Member::Final(_) | Member::Field(_) => None,
         },
     }
 }
@@ -205,5 +211,13 @@ impl<'s, 't> NameSearch<'s, 't> {
     {
         let structure = struct_behind(self.symbols, t);
         push_if(Role::Owner, begins(self.at, field), structure, found);
+    }
+
+    /// Searches a lock by the name of a listed lock class.
+    pub fn by_class(&self, class: &ClassName, found: &mut FoundNames<'t>)
+        ensures { Says self.now found.old found.new (by_class (ident class.now.structure) (ident class.now.lock) ∷ []) }
+    {
+        let structure = struct_named(self.symbols, &class.structure);
+        push_if(Role::Class, begins(self.at, &class.lock), structure, found);
     }
 }

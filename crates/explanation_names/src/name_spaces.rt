@@ -3,8 +3,8 @@
 ghost use Rattle.std.specs.Prelude.{◌≡◌, ◌++◌, IfOk, OnOk, map};
 ghost use Rattle.std.specs.List.{filter_map};
 ghost use Rattle.std.specs.Option.{option_map};
-ghost use Rattle.syntax.specs.Views.{decl_of, ident, section_of, stmt_of};
-ghost use Rattle.explanation_names.specs.NameSpaces.{inner_names, local_names, top_names};
+ghost use Rattle.syntax.specs.Views.{class_name_of, decl_of, ident, section_of, stmt_of};
+ghost use Rattle.explanation_names.specs.NameSpaces.{classes_in, inner_names, local_names, top_names};
 ghost use Rattle.explanation_names.specs.Working.Viewed.{bound_name, member_names, name_of_member, param_names, stmt_at};
 ghost use Rattle.explanation_names.specs.Working.Values.{ident_at, idents};
 
@@ -12,7 +12,7 @@ use crate::sought::declared;
 use crate::vars::all_of;
 use source::memory::NoMemory;
 use std::alloc::Global;
-use syntax::tree::{Decl, Member, Name, Param, Section, Stmt};
+use syntax::tree::{ClassName, Decl, Member, Name, Param, Section, Stmt};
 
 /// The names of the top level.
 pub fn top_names_of<'a>(alloc: Global, decls: &'a [Decl]) -> Result<Vec<&'a Name>, NoMemory>
@@ -125,4 +125,21 @@ pub fn inner_names_of<'a>(alloc: Global, decl: &'a Decl) -> Result<Vec<&'a Name>
     let mut names = Vec::new(alloc);
     push_inner(alloc, decl, &mut names)?;
     Ok(names)
+}
+
+/// The lock classes that a section or a helper lists.
+pub fn classes_in(decl: &Decl) -> &[ClassName]
+    ensures { map class_name_of result.now ≡ classes_in (decl_of decl.now) }
+{
+    match decl {
+        Decl::Atomic(section) => &section.listed,
+        Decl::Helper(section) => &section.listed,
+        Decl::Lock(_)
+        | Decl::Struct(_)
+        | Decl::Global(_)
+        | Decl::Array(_)
+        | Decl::Pool(_)
+        | Decl::Init(_)
+        | Decl::Thread(_) => &[],
+    }
 }

@@ -52,6 +52,7 @@ foreign_rows =
     ∷ row Anywhere Either Any Any Any Any Number Name (Mark sign.Semicolon) advice.Decimal
     ∷ row Top Either Any Any (Word key.Pool) Name Name (Mark sign.Semicolon) Any advice.PoolSize
     ∷ row Body Either Any Any Any Any Any (Word key.Lock) Any advice.NoLocking
+    ∷ row Head Either Any Any Any Any Any (Word key.Lock) (Mark sign.OpenParen) advice.ListedClasses
     ∷ []
 
 -- the rows on what is left out, or written in another order
@@ -223,6 +224,7 @@ words advice.Whole = codes "numbers are whole: there are no fractions"
 words advice.Decimal = codes "a number is written with decimal digits alone"
 words advice.PoolSize = codes "a pool says how many objects it has: `pool D E[1];`"
 words advice.NoLocking = codes "leave it out: the compiler takes the locks and gives them back"
+words advice.ListedClasses = codes "`lock(S.l)` stands once, after the result's type, in the head of an `atomic`; a helper's locks are those of what calls it"
 words advice.Comment = codes "a comment begins with `//`, and goes to the end of the line"
 words advice.For = codes "there is no `for`: write `while (..) { .. }`"
 words advice.Leave = codes "there is no `E`: make the condition of the `while` false"

@@ -30,6 +30,7 @@ pub enum Advice {
     Decimal,
     PoolSize,
     NoLocking,
+    ListedClasses,
     Comment,
     For,
     Leave,
@@ -107,6 +108,8 @@ impl Advice {
             Advice::Decimal => "a number is written with decimal digits alone",
             Advice::PoolSize => "a pool says how many objects it has: `pool D E[1];`",
             Advice::NoLocking => "leave it out: the compiler takes the locks and gives them back",
+            Advice::ListedClasses =>
+                "`lock(S.l)` stands once, after the result's type, in the head of an `atomic`; a helper's locks are those of what calls it",
             Advice::Comment => "a comment begins with `//`, and goes to the end of the line",
             Advice::For => "there is no `for`: write `while (..) { .. }`",
             Advice::Leave => "there is no `E`: make the condition of the `while` false",

@@ -1,7 +1,7 @@
 //! The first rows of the table of advice, on syntax of other languages.
 
 use crate::advice::Advice;
-use crate::area::Area::{Anywhere, Body, Top};
+use crate::area::Area::{Anywhere, Body, Head, Top};
 use crate::area::Inner::{Either, Paren};
 use crate::pattern::Foreign::{Do, Switch, Void};
 use crate::pattern::Pattern::{Any, Mark, Name, Number, Spelt, Starts, Word};
@@ -10,7 +10,7 @@ use source::token::Keyword::{Lock, Pool};
 use source::token::Sign::{CloseBrace, Dot, Equals, OpenBrace, OpenParen, Semicolon};
 
 /// The rows on syntax of other languages.
-pub const FOREIGN_ROWS: [Row; 9] = [
+pub const FOREIGN_ROWS: [Row; 10] = [
     Row(
         Body,
         Either,
@@ -64,5 +64,11 @@ pub const FOREIGN_ROWS: [Row; 9] = [
         Either,
         Shape(Any, Any, Any, Any, Any, Word(Lock), Any),
         Advice::NoLocking,
+    ),
+    Row(
+        Head,
+        Either,
+        Shape(Any, Any, Any, Any, Any, Word(Lock), Mark(OpenParen)),
+        Advice::ListedClasses,
     ),
 ];

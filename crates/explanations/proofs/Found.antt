@@ -15,7 +15,7 @@ use Rattle.flow.specs.Working.PointList.{point_at}
 use Rattle.flow.specs.Points.{Point, points, bound_at}
 use Rattle.locks.specs.declared.path.LockPath as written
 use Rattle.locks.specs.declared.path.Root.{Root}
-use Rattle.locks.specs.declared.path.Root.TheVariants.{GlobalLock, Local as AtLocal}
+use Rattle.locks.specs.declared.path.Root.TheVariants.{GlobalLock, WholeClass, Local as AtLocal}
 use Rattle.locks.specs.declared.path_set.PathSet.{PathSet}
 use Rattle.locks.specs.LockPaths.{LockPath, Uses, BindsRoot, lock_path_of, lock_paths}
 use Rattle.locks.specs.Working.Laws.{UsedAreListed}
@@ -27,6 +27,7 @@ use Rattle.explanations.specs.Working.Tellers.{HasClass, BeginsAt, IsBoundPath, 
 
 begins_bound : (root : Root) (o : Option ℕ) → begins root o ≡ true → (k : ℕ) × (root ≡ AtLocal k) × (o ≡ Some k)
 begins_bound GlobalLock o e = absurd cc
+begins_bound (WholeClass s) o e = absurd cc
 begins_bound (AtLocal k) None e = absurd cc
 begins_bound (AtLocal k) (Some local) e = (k, refl, ap Some (sym (eqb-true k local e)))
 

@@ -2,6 +2,7 @@ pub mod Added
 pub mod Cycles
 pub mod Found
 pub mod Leading
+pub mod Listing
 pub mod Members
 pub mod Orders
 pub mod Seen

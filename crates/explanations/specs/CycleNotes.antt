@@ -66,13 +66,13 @@ apart_words program class =
 abbrev pub around_words : Typed → ℕ → List ℕ
 around_words program class =
     codes "this binding stands before that use, and comes after it by a loop, while a lock of class " ++ class_name program class
-    ++ codes " is held: bind each object by a let before the loop, or take one global lock, or a common owner by where"
+    ++ codes " is held: bind each object by a let before the loop, or list a class in the section's head, lock(S.l), or take a common owner by where"
 
 -- this binding uses a lock of class CLASS: ..
 abbrev pub within_words : Typed → ℕ → List ℕ
 within_words program class =
     codes "this binding uses a lock of class " ++ class_name program class
-    ++ codes " itself: take a parameter, a final reference, or a global lock for the reference"
+    ++ codes " itself: take a parameter or a final reference, or list a class in the section's head, lock(S.l)"
 
 -- a note of these words without a place
 abbrev pub on_no_place : List ℕ → Note

@@ -52,7 +52,7 @@ pub record IsCycleExplained (text : List ℕ) (fault : Fault) (notes : List Note
   pub whole : notes ≡ of_edges ++ cycle_calls accepted program edges
 
 -- the text is accepted: notes on the order of the lock classes of its expanded program, with what makes each pair of
--- them, and the warnings on its tree
+-- them, and the warnings on its tree and its listed classes
 pub record IsFaultless (text : List ℕ) (notes : List Note) (warnings : List Warning) : Type 0 where
   pub program : Typed
   pub accepts : Accepts text program
@@ -61,7 +61,7 @@ pub record IsFaultless (text : List ℕ) (notes : List Note) (warnings : List Wa
   pub ranks : List ℕ
   pub are_ranks : AreRanksOf written_out ranks
   pub tell : AreOrderNotes written_out ranks notes
-  pub warned : AreTextWarnings text warnings
+  pub warned : AreTextWarnings text written_out warnings
 
 -- the report holds of a text
 pub data IsToldOf (text : List ℕ) : Told → Type 0 where

@@ -120,7 +120,7 @@ impl CycleWriter<'_> {
         )?;
         push_class(&mut said, self.program, class)?;
         said.push_str(
-            " is held: bind each object by a let before the loop, or take one global lock, or a common owner by where",
+            " is held: bind each object by a let before the loop, or list a class in the section's head, lock(S.l), or take a common owner by where",
         )?;
         Ok(said)
     }
@@ -132,7 +132,7 @@ impl CycleWriter<'_> {
         let mut said = String::from_str(alloc, "this binding uses a lock of class ")?;
         push_class(&mut said, self.program, class)?;
         said.push_str(
-            " itself: take a parameter, a final reference, or a global lock for the reference",
+            " itself: take a parameter or a final reference, or list a class in the section's head, lock(S.l)",
         )?;
         Ok(said)
     }

@@ -9,6 +9,7 @@ ghost use Rattle.explanations.specs.Told.{IsToldOf, said_by};
 use crate::cycle_calls::Calls;
 use crate::cycle_edges::cycle_notes;
 use crate::cycle_order::order_notes;
+use crate::listed::ListedClasses;
 use crate::text::text_warnings;
 use compiler::{Cyclic, Ordered, examine};
 use explanation::{Further, Note, Warning};
@@ -81,7 +82,12 @@ fn told_of_order(alloc: Global, text: &[u8], ordered: &Ordered) -> Result<Diagno
         &ordered.paths,
         &ordered.ranks,
     )?;
-    let warnings = text_warnings(alloc, text)?;
+    let listed = ListedClasses {
+        alloc,
+        program: ordered.trees.program(),
+        paths: &ordered.paths,
+    };
+    let warnings = text_warnings(alloc, text, &listed)?;
     Ok(Diagnosis::Accepted { notes, warnings })
 }
 

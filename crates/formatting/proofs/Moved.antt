@@ -13,8 +13,8 @@ use Rattle.syntax.specs.Trees.{compare, Links, no_links, link, Local, Owner, Hel
 use Rattle.syntax.specs.Trees.{let_owned, let_call, var_local, assign, if_then, while, print, return_value, Stmts}
 use Rattle.syntax.specs.Trees.{no_stmts, stmt, Otherwise, no_else, else_do, Block, Protection, Variable, Array, Final}
 use Rattle.syntax.specs.Trees.{Field, Member, lock_member, final_member, field_member, Struct, Pool, Init, Param}
-use Rattle.syntax.specs.Trees.{Section, Call, Item, repeat, Items, no_items, item, Thread, Decl, lock, struct, global}
-use Rattle.syntax.specs.Trees.{array, pool, init, atomic, helper, thread}
+use Rattle.syntax.specs.Trees.{ClassName, Section, Call, Item, repeat, Items, no_items, item, Thread, Decl, lock}
+use Rattle.syntax.specs.Trees.{struct, global, array, pool, init, atomic, helper, thread}
 use Rattle.syntax.specs.Views.{option_of}
 use Rattle.syntax.specs.Grammar.{IsOptional, left_out, given, AreMany, no_more, one_more, IsAfter, after, AreListed}
 use Rattle.syntax.specs.Grammar.{none_listed, listed, IsName, is_name, IsType, is_int_type, is_ref_type, IsConst}
@@ -26,7 +26,8 @@ use Rattle.syntax.specs.Grammar.{is_return, is_call_stmt, IsStmts, are_no_stmts,
 use Rattle.syntax.specs.Grammar.{is_no_else, is_else, IsBlock, is_block, IsIndex, is_index, IsProtection, is_protection}
 use Rattle.syntax.specs.Grammar.{IsVariable, is_variable, IsArray, is_array, IsFinal, is_final, IsField, is_field, IsMember}
 use Rattle.syntax.specs.Grammar.{is_lock_member, is_final_member, is_field_member, IsStruct, is_struct, IsPool, is_pool}
-use Rattle.syntax.specs.Grammar.{IsInit, is_init, IsParam, is_param, IsSection, is_section, IsCall, is_call, IsItem}
+use Rattle.syntax.specs.Grammar.{IsInit, is_init, IsParam, is_param, IsClassName, is_class_name, AreTakenWhole}
+use Rattle.syntax.specs.Grammar.{none_taken, taken, IsSection, is_section, IsCall, is_call, IsItem}
 use Rattle.syntax.specs.Grammar.{is_call_item, is_repeat, IsItems, are_no_items, are_items, IsThread, is_thread, IsDecl}
 use Rattle.syntax.specs.Grammar.{is_lock, is_struct_decl, is_global, is_array_decl, is_pool_decl, is_init_decl, is_atomic}
 use Rattle.syntax.specs.Grammar.{is_helper, is_thread_decl, Spells, spells, nesting, open_after, IsShallow, HasTree}
@@ -153,8 +154,11 @@ module _ (f : Span → Span) where
   abbrev m_param : Param → Param
   m_param p = record { name = m_name p.name; value_type = m_type p.value_type }
 
+  abbrev m_class : ClassName → ClassName
+  m_class c = record { structure = m_name c.structure; lock = m_name c.lock }
+
   abbrev m_section : Section → Section
-  m_section s = record { name = m_name s.name; params = map m_param s.params; result = option_of m_type s.result; body = m_block s.body }
+  m_section s = record { name = m_name s.name; params = map m_param s.params; result = option_of m_type s.result; listed = map m_class s.listed; body = m_block s.body }
 
   abbrev m_call : Call → Call
   m_call c = record { section = m_name c.section; arguments = map m_const c.arguments }
@@ -332,8 +336,15 @@ module _ (f : Span → Span) where
   result_moved : Moves (IsOptional (IsAfter sign.Colon IsType)) (option_of m_type)
   result_moved = optional_moved (IsAfter sign.Colon IsType) m_type (after_moved sign.Colon IsType m_type type_moved)
 
+  class_moved : Moves IsClassName m_class
+  class_moved x ts rest is_class_name = is_class_name
+
+  whole_moved : Moves AreTakenWhole (map m_class)
+  whole_moved [] ts rest none_taken = none_taken
+  whole_moved (c ∷ cs) ts rest (taken {ts = us} {mid = mid} n more) = taken (class_moved c us mid n) (many_moved (IsAfter sign.Comma IsClassName) m_class (after_moved sign.Comma IsClassName m_class class_moved) cs mid _ more)
+
   section_moved : {s : Section} {ts rest : List Tok} → IsSection s ts rest → IsSection (m_section s) (moved ts) (moved rest)
-  section_moved (is_section {s} {ts1 = ts1} {ts2 = ts2} {ts3 = ts3} h r b) = is_section (listed_moved IsParam m_param param_moved s.params ts1 _ h) (result_moved s.result ts2 ts3 r) (block_moved b)
+  section_moved (is_section {s} {ts1 = ts1} {ts2 = ts2} {ts3 = ts3} {ts4 = ts4} h r cs b) = is_section (listed_moved IsParam m_param param_moved s.params ts1 _ h) (result_moved s.result ts2 ts3 r) (whole_moved s.listed ts3 ts4 cs) (block_moved b)
 
   call_moved : {c : Call} {ts rest : List Tok} → IsCall c ts rest → IsCall (m_call c) (moved ts) (moved rest)
   call_moved (is_call {c} {ts = ts} h) = is_call (listed_moved IsConst m_const const_moved c.arguments ts _ h)
@@ -358,7 +369,7 @@ module _ (f : Span → Span) where
   decl_moved x ts rest (is_pool_decl h) = is_pool_decl (pool_moved h)
   decl_moved x ts rest (is_init_decl h) = is_init_decl (init_moved h)
   decl_moved x ts rest (is_atomic h) = is_atomic (section_moved h)
-  decl_moved x ts rest (is_helper h) = is_helper (section_moved h)
+  decl_moved x ts rest (is_helper none h) = is_helper (ap (map m_class) none) (section_moved h)
   decl_moved x ts rest (is_thread_decl h) = is_thread_decl (thread_moved h)
 
   spells_moved : (ds : List Decl) (ts : List Tok) → Spells ds ts → Spells (map m_decl ds) (moved ts)

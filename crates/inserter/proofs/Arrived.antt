@@ -1,5 +1,5 @@
 -- What holds when a run comes to a point, before it asks for a lock there; it holds at the begin of a run.
-use Rattle.std.proofs.Common.{◌≡◌, ℕ, ◌<◌, List, [], Some, ◌⊎◌}
+use Rattle.std.proofs.Common.{◌≡◌, ℕ, ◌<◌, List, [], ◌⊎◌}
 use Rattle.std.specs.Prelude.{slice_index}
 use Rattle.std.specs.List.{Contains}
 use Rattle.core_lang.specs.declared.value.Value.{Value}
@@ -9,7 +9,7 @@ use Rattle.flow.specs.Skeletons.{skeleton}
 use Rattle.flow.specs.Flow.{Before}
 use Rattle.flow.specs.Walks.{Walk, begin}
 use Rattle.locks.specs.declared.lock.Lock.{Lock}
-use Rattle.locks.specs.LockPaths.{LockPath, lock_named, Uses, IsInScope, BindsRoot}
+use Rattle.locks.specs.LockPaths.{LockPath, Names, Uses, IsInScope, BindsRoot}
 use Rattle.points.specs.Used.{IsUsedLater}
 use Rattle.points.specs.Wanted.{rank_of, IsTaken, IsSurelyHeld}
 use Rattle.core_lang.specs.Theory.Items.{not_in_none}
@@ -24,20 +24,20 @@ module _ (program : Typed) (section : Section) (ranks : List ℕ) where
     pub path : LockPath
     pub user : ℕ
     pub uses : Uses program section user path
-    pub named : lock_named path program.shape locals ≡ Some lock
+    pub named : Names path program.shape locals lock
 
   pub record Arrived (p : ℕ) (locals : List Value) (held : List Lock) : Type 0 where
     pub walk : (ps : List ℕ) × Walk (skeleton section) ps p
-    -- if the lock of a path that is in scope, and used here or later, isn't held, then all held ones are below
+    -- if a lock of a path that is in scope, and used here or later, isn't held, then all held ones are below
     pub free : (path : LockPath) (l : Lock) → IsInScope section p path →
         Uses program section p path ⊎ IsUsedLater program section p path →
-        lock_named path program.shape locals ≡ Some l → (Contains held l → ⊥) → AreBelow held path
+        Names path program.shape locals l → (Contains held l → ⊥) → AreBelow held path
     -- all held ones are below a path whose root is bound here or later
     pub later : (path : LockPath) (user b : ℕ) → Uses program section user path → BindsRoot section b path →
         (p ≡ b) ⊎ Before (skeleton section) p b → AreBelow held path
     -- the locks of surely held paths are held
     pub sure : (path : LockPath) (l : Lock) → IsSurelyHeld program section ranks p path →
-        lock_named path program.shape locals ≡ Some l → Contains held l
+        Names path program.shape locals l → Contains held l
     pub of_path : (h : Lock) → Contains held h → HasPath locals h
 
   not_taken : (path : LockPath) → IsTaken program section ranks path [] → ⊥

@@ -2,23 +2,23 @@
 use Rattle.std.proofs.Common.{◌≡◌, ℕ, ◌<◌, List, [], ◌∷◌, length, Option, Some, None, ◌⊎◌, inl, inr, refl, sym, ap}
 use Rattle.std.proofs.Common.{◌∙◌, subst, arith}
 use Rattle.std.specs.Prelude.{slice_get, slice_index}
-use Rattle.std.specs.List.{Contains}
+use Rattle.std.specs.List.{Contains, flat_map}
 use Rattle.std.proofs.lemmas.Bool.{cases_lt}
-use Rattle.std.proofs.lemmas.Option.{none-some, same_Some, slice_get_within, slice_get-get_or, get_or_from_slice_get}
+use Rattle.std.proofs.lemmas.Option.{same_Some, slice_get_within, slice_get-get_or, get_or_from_slice_get}
 use Rattle.core_lang.specs.declared.value.Value.{Value}
 use Rattle.core_lang.specs.declared.tree.Section.{Section}
 use Rattle.core_lang.specs.declared.typed.Typed.{Typed}
 use Rattle.locks.specs.declared.lock.Lock.{Lock}
-use Rattle.locks.specs.LockPaths.{LockPath, lock_paths, lock_named}
+use Rattle.locks.specs.LockPaths.{LockPath, lock_paths, locks_named}
+use Rattle.locks.specs.Theory.Members.{in_flat_map, from_flat_map}
+use Rattle.locks.specs.Theory.Naming.{named_class}
 use Rattle.locks.specs.Order.{Precedes, PrecedesIsStrict}
 use Rattle.locks.specs.Theory.Order.{by_rank, by_object}
-use Rattle.inserter.specs.Placement.{IsPath}
 use Rattle.inserter.specs.Working.Runs.{IsListed, Asks}
 use Rattle.inserter.specs.Working.Laws.{IsOrdered}
 use Rattle.inserter.proofs.Held.{held_or_not}
 use Rattle.inserter.proofs.Listed.{PathLaws, listed_wanted, somewhere}
-use Rattle.inserter.proofs.Named.{named_class}
-use Rattle.core_lang.specs.Theory.Items.{not_in_none, in_first, in_rest, in_cases}
+use Rattle.core_lang.specs.Theory.Items.{not_in_none, in_first, in_rest, in_cases, contains_at, at_contained}
 
 module _ (laws : PathLaws) (strict : PrecedesIsStrict) (program : Typed) (section : Section) (ranks : List ℕ) (lists : List (List ℕ))
     (ok : IsOrdered program section ranks lists) where
@@ -70,150 +70,139 @@ module _ (laws : PathLaws) (strict : PrecedesIsStrict) (program : Typed) (sectio
               ]
             ]
 
-    module _ (held : List Lock) (list : List ℕ) (here : slice_get lists p ≡ Some list) where
-      -- a path of these numbers names the lock
-      record IsBy (numbers : List ℕ) (lock : Lock) : Type 0 where
-        number : ℕ
-        path : LockPath
-        listed : Contains numbers number
-        is_path : IsPath program section number path
-        named : lock_named path program.shape locals ≡ Some lock
+    -- ---- the listed locks, as a list
 
-      later : (i : ℕ) (is : List ℕ) (l : Lock) → IsBy is l → IsBy (i ∷ is) l
-      later i is l x = record { number = x.number; path = x.path; listed = in_rest i x.number is x.listed; is_path = x.is_path; named = x.named }
+    abbrev locks_at : Option LockPath → List Lock
+    locks_at None = []
+    locks_at (Some path) = locks_named path program.shape locals
 
-      cases_by : (i : ℕ) (is : List ℕ) (l : Lock) → IsBy (i ∷ is) l →
-          ((path : LockPath) × IsPath program section i path × (lock_named path program.shape locals ≡ Some l)) ⊎ IsBy is l
-      cases_by i is l x =
-          elim (in_cases i x.number is x.listed) [
-            | inl e ↦ inl (x.path, subst (λ n. IsPath program section n x.path) (sym e) x.is_path, x.named)
-            | inr m ↦ inr (record { number = x.number; path = x.path; listed = m; is_path = x.is_path; named = x.named })
-          ]
+    abbrev of_number : ℕ → List Lock
+    of_number i = locks_at (slice_get (lock_paths program section) i)
 
-      -- the first of the locks of these numbers that aren't held
-      record IsFirst (numbers : List ℕ) (lock : Lock) : Type 0 where
+    abbrev all_of : List ℕ → List Lock
+    all_of list = flat_map of_number list
+
+    to_all : (lock : Lock) (x : IsListed program section ranks lists p locals lock) → Contains (all_of x.list) lock
+    to_all lock x =
+        let k = at_contained x.list x.number x.listed in
+        in_flat_map of_number x.list k.0 x.number lock k.1 (subst (λ (o : Option LockPath). Contains (locks_at o) lock) (sym x.is_path) x.named)
+
+    from_all : (list : List ℕ) → slice_get lists p ≡ Some list → (lock : Lock) → Contains (all_of list) lock →
+        IsListed program section ranks lists p locals lock
+    from_all list here lock c =
+        let r = from_flat_map of_number list lock c in
+        of_path r.1 (contains_at list r.0 r.1 r.2) (slice_get (lock_paths program section) r.1) refl r.3
+      where
+        of_path : (i : ℕ) → Contains list i → (o : Option LockPath) → slice_get (lock_paths program section) i ≡ o →
+            Contains (locks_at o) lock → IsListed program section ranks lists p locals lock
+        of_path i within None e c = absurd (not_in_none lock c)
+        of_path i within (Some path) e c = record {
+          list = list;
+          number = i;
+          path = path;
+          here = here;
+          listed = within;
+          is_path = e;
+          named = c;
+        }
+
+    -- ---- the first of those that are not held
+
+    module _ (held : List Lock) where
+      record IsFirst (locks : List Lock) (lock : Lock) : Type 0 where
         listed : IsListed program section ranks lists p locals lock
         new : Contains held lock → ⊥
-        first : (other : Lock) → IsBy numbers other → (Contains held other → ⊥) →
+        first : (other : Lock) → Contains locks other → (Contains held other → ⊥) →
             (other ≡ lock) ⊎ Precedes ranks lock other
 
-      abbrev Found : List ℕ → Type 0
-      Found numbers = ((lock : Lock) → IsBy numbers lock → Contains held lock) ⊎ ((lock : Lock) × IsFirst numbers lock)
+      abbrev Found : List Lock → Type 0
+      Found locks = ((lock : Lock) → Contains locks lock → Contains held lock) ⊎ ((lock : Lock) × IsFirst locks lock)
 
-      -- one more number, which names no lock that isn't held
-      passed : (i : ℕ) (is : List ℕ) →
-          ((path : LockPath) (l : Lock) → IsPath program section i path →
-          lock_named path program.shape locals ≡ Some l → Contains held l) →
-          Found is → Found (i ∷ is)
-      passed i is all_held (inl all) = inl (λ l x. elim (cases_by i is l x) [ inl y ↦ all_held y.0 l y.1 y.2 | inr y ↦ all l y ])
-      passed i is all_held (inr found) =
+      -- one more, which is held
+      passed : (l : Lock) (ls : List Lock) → Contains held l → Found ls → Found (l ∷ ls)
+      passed l ls c (inl all) =
+          inl (λ other d. elim (in_cases l other ls d) [ inl e ↦ subst (λ (x : Lock). Contains held x) e c | inr m ↦ all other m ])
+      passed l ls c (inr found) =
           inr (
             found.0,
             record {
               listed = found.1.listed;
               new = found.1.new;
-              first = λ l x new. elim (cases_by i is l x) [ inl y ↦ absurd (new (all_held y.0 l y.1 y.2)) | inr y ↦ found.1.first l y new ];
+              first = λ other d free. elim (in_cases l other ls d) [
+                | inl e ↦ absurd (free (subst (λ (x : Lock). Contains held x) e c))
+                | inr m ↦ found.1.first other m free
+              ];
             },
           )
 
-      -- one that names a lock which isn't held
-      more : (i : ℕ) (is : List ℕ) (path : LockPath) (l : Lock) → Contains list i → IsPath program section i path →
-          lock_named path program.shape locals ≡ Some l →
-          (Contains held l → ⊥) → Found is → (lock : Lock) × IsFirst (i ∷ is) lock
-      more i is path l within is_path named new found =
-          elim found [
-            | inl all ↦ (
+      -- one more, which is not held
+      more : (l : Lock) (ls : List Lock) → IsListed program section ranks lists p locals l → (Contains held l → ⊥) →
+          Found ls → (lock : Lock) × IsFirst (l ∷ ls) lock
+      more l ls listed new (inl all) = (
+        l,
+        record {
+          listed = listed;
+          new = new;
+          first = λ other d free. elim (in_cases l other ls d) [ inl e ↦ inl (sym e) | inr m ↦ absurd (free (all other m)) ];
+        },
+      )
+      more l ls listed new (inr m) =
+          elim (compared l m.0 listed m.1.listed) [
+            | inl e ↦ kept (λ other same. inl (sym same ∙ e))
+            | inr (inl before) ↦ (
               l,
               record {
                 listed = listed;
                 new = new;
-                first = λ other x free. elim (cases_by i is other x) [ inl y ↦ inl (own other y) | inr y ↦ absurd (free (all other y)) ];
+                first = λ other d free. elim (in_cases l other ls d) [
+                  | inl e ↦ inl (sym e)
+                  | inr further ↦ elim (m.1.first other further free) [
+                    | inl e ↦ inr (subst (λ (z : Lock). Precedes ranks l z) (sym e) before)
+                    | inr next ↦ inr (strict.goes_on ranks l m.0 other before next)
+                  ]
+                ];
               },
             )
-            | inr m ↦ elim (compared l m.0 listed m.1.listed) [
-              | inl e ↦ kept m (λ other y. inl (own other y ∙ e))
-              | inr (inl before) ↦ (
-                l,
-                record {
-                  listed = listed;
-                  new = new;
-                  first = λ other x free. elim (cases_by i is other x) [
-                    | inl y ↦ inl (own other y)
-                    | inr y ↦ elim (m.1.first other y free) [
-                      | inl e ↦ inr (subst (λ (z : Lock). Precedes ranks l z) (sym e) before)
-                      | inr next ↦ inr (strict.goes_on ranks l m.0 other before next)
-                    ]
-                  ];
-                },
-              )
-              | inr (inr behind) ↦ kept m (λ other y. inr (subst (λ (z : Lock). Precedes ranks m.0 z) (sym (own other y)) behind))
-            ]
+            | inr (inr behind) ↦ kept (λ other same. inr (subst (λ (z : Lock). Precedes ranks m.0 z) same behind))
           ]
         where
-          listed : IsListed program section ranks lists p locals l
-          listed = record { list = list; number = i; path = path; here = here; listed = within; is_path = is_path; named = named }
-
-          own : (other : Lock) →
-              (q : LockPath) × IsPath program section i q × (lock_named q program.shape locals ≡ Some other) →
-              other ≡ l
-          own other y =
-              same_Some other l (sym y.2 ∙ ap (λ (q : LockPath). lock_named q program.shape locals) (same_Some y.0 path (sym y.1 ∙ is_path)) ∙ named)
-
-          kept : (m : (lock : Lock) × IsFirst is lock) →
-              ((other : Lock) → (q : LockPath) × IsPath program section i q × (lock_named q program.shape locals ≡ Some other) → (other ≡ m.0) ⊎ Precedes ranks m.0 other) →
-              (lock : Lock) × IsFirst (i ∷ is) lock
-          kept m at = (
+          kept : ((other : Lock) → l ≡ other → (other ≡ m.0) ⊎ Precedes ranks m.0 other) → (lock : Lock) × IsFirst (l ∷ ls) lock
+          kept at = (
             m.0,
             record {
               listed = m.1.listed;
               new = m.1.new;
-              first = λ other x free. elim (cases_by i is other x) [ inl y ↦ at other y | inr y ↦ m.1.first other y free ];
+              first = λ other d free. elim (in_cases l other ls d) [ inl e ↦ at other e | inr further ↦ m.1.first other further free ];
             },
           )
 
-      found_in : (numbers : List ℕ) → ((i : ℕ) → Contains numbers i → Contains list i) → Found numbers
-      found_in [] within = inl (λ l x. absurd (not_in_none x.number x.listed))
-      found_in (i ∷ is) within =
-          let rest = found_in is (λ j c. within j (in_rest i j is c)) in
-          by_path (slice_get (lock_paths program section) i) refl rest
-        where
-          by_lock : (path : LockPath) → IsPath program section i path → (o : Option Lock) →
-              lock_named path program.shape locals ≡ o → Found is → Found (i ∷ is)
-          by_lock path is_path None e rest =
-              passed i is (λ q l at named. absurd (none-some l (sym e ∙ ap (λ (x : LockPath). lock_named x program.shape locals) (same_Some path q (sym is_path ∙ at)) ∙ named))) rest
-          by_lock path is_path (Some l) e rest =
-              elim (held_or_not held l) [
-                | inl c ↦ passed i is (λ q m at named. subst (λ (x : Lock). Contains held x) (same_Some l m (sym e ∙ ap (λ (x : LockPath). lock_named x program.shape locals) (same_Some path q (sym is_path ∙ at)) ∙ named)) c) rest
-                | inr new ↦ inr (more i is path l (within i (in_first i is)) is_path e new rest)
-              ]
-
-          by_path : (o : Option LockPath) → slice_get (lock_paths program section) i ≡ o → Found is → Found (i ∷ is)
-          by_path None e rest = passed i is (λ q l at named. absurd (none-some q (sym e ∙ at))) rest
-          by_path (Some path) e rest = by_lock path e (lock_named path program.shape locals) refl rest
+      found_in : (locks : List Lock) → ((l : Lock) → Contains locks l → IsListed program section ranks lists p locals l) →
+          Found locks
+      found_in [] listed = inl (λ l c. absurd (not_in_none l c))
+      found_in (l ∷ ls) listed =
+          let rest = found_in ls (λ other c. listed other (in_rest l other ls c)) in
+          elim (held_or_not held l) [
+            | inl c ↦ passed l ls c rest
+            | inr new ↦ inr (more l ls (listed l (in_first l ls)) new rest)
+          ]
 
     -- if a listed lock is not held, a run asks for one
     pub some_asked : (held : List Lock) (lock : Lock) → IsListed program section ranks lists p locals lock →
         (Contains held lock → ⊥) →
         (asked : Lock) × Asks program section ranks lists p locals held asked
     some_asked held lock x new =
-        elim (found_in held x.list x.here x.list (λ i c. c)) [
-          | inl all ↦ absurd (new (all lock (record { number = x.number; path = x.path; listed = x.listed; is_path = x.is_path; named = x.named })))
+        elim (found_in held (all_of x.list) (from_all x.list x.here)) [
+          | inl all ↦ absurd (new (all lock (to_all lock x)))
           | inr found ↦ (
             found.0,
             record {
               listed = found.1.listed;
               new = found.1.new;
-              first = λ other y free. found.1.first other (by_number other y) free;
+              first = λ other y free. found.1.first other (in_same other y) free;
             },
           )
         ]
       where
-        by_number : (other : Lock) (y : IsListed program section ranks lists p locals other) →
-            IsBy held x.list x.here x.list other
-        by_number other y = record {
-          number = y.number;
-          path = y.path;
-          listed = subst (λ (l : List ℕ). Contains l y.number) (same_Some y.list x.list (sym y.here ∙ x.here)) y.listed;
-          is_path = y.is_path;
-          named = y.named;
-        }
+        in_same : (other : Lock) → IsListed program section ranks lists p locals other → Contains (all_of x.list) other
+        in_same other y =
+            subst (λ (l : List ℕ). Contains (all_of l) other) (same_Some y.list x.list (sym y.here ∙ x.here)) (to_all other y)

@@ -1,5 +1,5 @@
 -- From a point where all listed locks are held to one that follows: what holds on arrival holds there too.
-use Rattle.std.proofs.Common.{◌≡◌, ℕ, List, [], ◌∷◌, Some, ◌⊎◌, inl, inr, refl, sym, ◌∙◌, subst, arith}
+use Rattle.std.proofs.Common.{◌≡◌, ℕ, List, [], ◌∷◌, ◌⊎◌, inl, inr, refl, sym, subst, arith}
 use Rattle.std.specs.Prelude.{slice_index}
 use Rattle.std.specs.List.{Contains}
 use Rattle.std.proofs.lemmas.Bool.{cases_lt}
@@ -10,7 +10,7 @@ use Rattle.flow.specs.Skeletons.{skeleton}
 use Rattle.flow.specs.Flow.{Follows, Before, one, more}
 use Rattle.flow.specs.Walks.{go}
 use Rattle.locks.specs.declared.lock.Lock.{Lock}
-use Rattle.locks.specs.LockPaths.{LockPath, lock_named, Uses, IsInScope, BindsRoot}
+use Rattle.locks.specs.LockPaths.{LockPath, Names, Uses, IsInScope, BindsRoot}
 use Rattle.points.specs.Used.{IsUsedLater}
 use Rattle.points.specs.Wanted.{rank_of, IsTaken, last, earlier, IsSurelyHeld}
 use Rattle.inserter.specs.Working.Runs.{IsListed, Keeps}
@@ -62,7 +62,7 @@ module _ (laws : PathLaws) (program : Typed) (section : Section) (ranks : List �
 
   held_now : (path : LockPath) (l : Lock) → (BindsRoot section p path → ⊥) → IsInScope section p path →
       IsUsedLater program section p path →
-      lock_named path program.shape locals ≡ Some l → (Contains held l → ⊥) → AreBelow program section ranks held path
+      Names path program.shape locals l → (Contains held l → ⊥) → AreBelow program section ranks held path
   held_now path l stays scope later e none h c =
       elim (s.each h c) [
         | inl old ↦ s.arrived.free path l scope (inr later) e (λ d. none (s.keeps l d)) h old
@@ -78,16 +78,21 @@ module _ (laws : PathLaws) (program : Typed) (section : Section) (ranks : List �
             ]
       ]
 
+  -- what a path names after the point it named before it
+  named_before : (path : LockPath) (l : Lock) (user : ℕ) → Uses program section user path →
+      (BindsRoot section p path → ⊥) → Names path program.shape after l → Names path program.shape locals l
+  named_before path l user u stays e = subst (λ (ls : List Lock). Contains ls l) (keeps user path u stays) e
+
   free_on : (path : LockPath) (l : Lock) → IsInScope section q path →
       Uses program section q path ⊎ IsUsedLater program section q path →
-      lock_named path program.shape after ≡ Some l → (Contains held l → ⊥) → AreBelow program section ranks held path
+      Names path program.shape after l → (Contains held l → ⊥) → AreBelow program section ranks held path
   free_on path l scope ahead e none h c =
       let user = somewhere laws program section ranks lists ok q path ahead in
       elim (cases_lt (slice_index ranks h.class) (rank_of ranks path)) [
         | inl lt ↦ lt
         | inr ge ↦
             let stays : BindsRoot section p path → ⊥ = λ binds. let lt = below_bound path user.0 p user.1 binds (inl refl) h c in omega (arith, lt, ge) in
-            let e' = sym (keeps user.0 path user.1 stays) ∙ e in
+            let e' = named_before path l user.0 user.1 stays e in
             elim (laws.scope_back section p q path follows scope) [
               | inl here ↦ held_now path l stays here (later_than program section path follows ahead) e' none h c
               | inr binds ↦ absurd (stays binds)
@@ -95,20 +100,20 @@ module _ (laws : PathLaws) (program : Typed) (section : Section) (ranks : List �
       ]
 
   sure_on : (path : LockPath) (l : Lock) → IsSurelyHeld program section ranks q path →
-      lock_named path program.shape after ≡ Some l → Contains held l
+      Names path program.shape after l → Contains held l
   sure_on path l surely e =
       let walk = s.arrived.walk in
       let taken = surely (p ∷ walk.0) (go walk.1 follows) in
       let at = taken_user program section ranks path (p ∷ walk.0) taken in
       let user = somewhere laws program section ranks lists ok at.0 path at.1 in
-      let e' = sym (keeps user.0 path user.1 (not_bound program section ranks path p walk.0 taken)) ∙ e in
+      let e' = named_before path l user.0 user.1 (not_bound program section ranks path p walk.0 taken) e in
       elim (held_or_not held l) [
         | inl c ↦ c
         | inr none ↦ s.keeps l (s.arrived.sure path l (λ ps w. by_then ps (surely (p ∷ ps) (go w follows)) e' none) e')
       ]
     where
       by_then : {path : LockPath} {l : Lock} (ps : List ℕ) → IsTaken program section ranks path (p ∷ ps) →
-          lock_named path program.shape locals ≡ Some l →
+          Names path program.shape locals l →
           (Contains held l → ⊥) → IsTaken program section ranks path ps
       by_then {path} {l} ps (last wanted free) e none = absurd (none (wanted_held laws program section ranks lists ok p locals held s all path l wanted e))
       by_then ps (earlier t free) e none = t
@@ -121,7 +126,7 @@ module _ (laws : PathLaws) (program : Typed) (section : Section) (ranks : List �
       let same = named_rank laws program section ranks lists ok x.path locals h x.named in
       omega (arith, lt, same)
       in
-      record { path = x.path; user = x.user; uses = x.uses; named = keeps x.user x.path x.uses stays ∙ x.named }
+      record { path = x.path; user = x.user; uses = x.uses; named = subst (λ (ls : List Lock). Contains ls h) (sym (keeps x.user x.path x.uses stays)) x.named }
 
   pub goes_on : Arrived program section ranks q after held
   goes_on = record {

@@ -2,7 +2,6 @@ pub mod KeyLists
 pub mod DueLists
 pub mod Held
 pub mod Few
-pub mod Named
 pub mod Listed
 pub mod Arrived
 pub mod Standing

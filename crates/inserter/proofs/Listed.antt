@@ -10,14 +10,14 @@ use Rattle.flow.specs.Skeletons.{skeleton}
 use Rattle.flow.specs.Flow.{Before}
 use Rattle.flow.specs.Points.{points}
 use Rattle.locks.specs.declared.lock.Lock.{Lock}
-use Rattle.locks.specs.LockPaths.{LockPath, lock_paths, lock_named, Uses, BindsRoot}
+use Rattle.locks.specs.LockPaths.{LockPath, lock_paths, Names, Uses, BindsRoot}
+use Rattle.locks.specs.Theory.Naming.{named_class}
 use Rattle.locks.specs.Working.Laws.{UsedAreInScope, ScopeOfPathsGoesBack, PathsHaveClasses, UsedAreListed}
 use Rattle.points.specs.Used.{IsUsedLater}
 use Rattle.points.specs.Wanted.{rank_of, IsWanted}
 use Rattle.inserter.specs.Placement.{IsPath, IsDue}
 use Rattle.inserter.specs.Working.Runs.{IsListed}
 use Rattle.inserter.specs.Working.Laws.{IsOrdered}
-use Rattle.inserter.proofs.Named.{named_class}
 
 -- the laws of lock paths that are used
 pub record PathLaws : Type 0 where
@@ -28,7 +28,7 @@ pub record PathLaws : Type 0 where
 
 module _ (laws : PathLaws) (program : Typed) (section : Section) (ranks : List ℕ) (lists : List (List ℕ)) (ok : IsOrdered program section ranks lists) where
   pub named_rank : (path : LockPath) (locals : List Value) (l : Lock) →
-      lock_named path program.shape locals ≡ Some l → slice_index ranks l.class ≡ rank_of ranks path
+      Names path program.shape locals l → slice_index ranks l.class ≡ rank_of ranks path
   named_rank path locals l e = ap (λ c. slice_index ranks c) (named_class path program.shape locals l e)
 
   has_rank : (p : ℕ) (path : LockPath) → Uses program section p path →
@@ -79,9 +79,9 @@ module _ (laws : PathLaws) (program : Typed) (section : Section) (ranks : List �
       let b = (listed_wanted p locals l x).below in
       (b.0, b.1, omega (arith, b.2, named_rank x.path locals l x.named))
 
-  -- the lock of a path that is due is listed
+  -- each lock of a path that is due is listed
   pub due_listed : (p : ℕ) (path : LockPath) (locals : List Value) (l : Lock) → IsDue program section ranks p path →
-      lock_named path program.shape locals ≡ Some l → IsListed program section ranks lists p locals l
+      Names path program.shape locals l → IsListed program section ranks lists p locals l
   due_listed p path locals l due e =
       let u = due.wanted.below.1 in
       let lt : p < length lists = omega (arith, slice_get_within (points section) p u.0 u.1, ok.allowed.long) in

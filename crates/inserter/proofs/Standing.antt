@@ -1,12 +1,12 @@
 -- What holds while a run is at a point, with some of the locks granted that are listed there.
-use Rattle.std.proofs.Common.{◌≡◌, ℕ, List, Some, ◌⊎◌, inl, inr}
+use Rattle.std.proofs.Common.{ℕ, List, ◌⊎◌, inl, inr}
 use Rattle.std.specs.Prelude.{◌≢◌}
 use Rattle.std.specs.List.{AllPairs, Contains}
 use Rattle.core_lang.specs.declared.value.Value.{Value}
 use Rattle.core_lang.specs.declared.tree.Section.{Section}
 use Rattle.core_lang.specs.declared.typed.Typed.{Typed}
 use Rattle.locks.specs.declared.lock.Lock.{Lock}
-use Rattle.locks.specs.LockPaths.{LockPath, lock_named}
+use Rattle.locks.specs.LockPaths.{LockPath, Names}
 use Rattle.locks.specs.Order.{Precedes}
 use Rattle.points.specs.Wanted.{IsWanted}
 use Rattle.inserter.specs.Working.Runs.{IsListed}
@@ -42,10 +42,10 @@ module _ (laws : PathLaws) (program : Typed) (section : Section) (ranks : List �
             record { path = x.path; user = user.0; uses = user.1; named = x.named }
       ]
 
-  -- if all listed locks are held, so is the lock of each wanted path
+  -- if all listed locks are held, so are the locks of each wanted path
   pub wanted_held : ((l : Lock) → IsListed program section ranks lists p locals l → Contains held l) →
       (path : LockPath) (l : Lock) →
-      IsWanted program section ranks p path → lock_named path program.shape locals ≡ Some l → Contains held l
+      IsWanted program section ranks p path → Names path program.shape locals l → Contains held l
   wanted_held all path l wanted e =
       elim (held_or_not held l) [
         | inl c ↦ c

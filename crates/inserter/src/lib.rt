@@ -2,8 +2,9 @@
 //!
 //! - [`place`]: the lists of lock paths before the points of all sections.
 //! - [`place_by`]: the same, given the points of all sections.
-//! - [`laws`]: each lock that a run asks for comes after all that it holds, each access finds the lock of its path
-//!   held, and a run holds at most as many locks as its section has lock paths.
+//! - [`laws`]: each lock that a run asks for comes after all that it holds, each access finds the locks of its path
+//!   held, a run holds at most as many locks as the paths of its section can name, and it holds a class that it takes
+//!   whole from the first point that wants it to its end.
 //! - [`placed::Placed`]: the lists.
 //!
 //! `specs/` defines the list before a point (`Placement`), the run of a section reduced to its locks (`Runs`), and the

@@ -32,7 +32,8 @@ fn span_at(start: usize, end: usize) -> Span
 /// The token of `kind` from `start` to `end`.
 fn token_at(alloc: Global, kind: UnitKind, start: usize, end: usize) -> Result<Token, AllocError>
     requires { CanStand (seen_kind kind) start end }
-    ensures { IfOk result (λ token. seen_token token ≡ record { kind = seen_kind kind; span = record { start = start; end = end } }) }
+    ensures { IfOk result
+        (λ token. seen_token token ≡ record { kind = seen_kind kind; span = record { start = start; end = end } }) }
 {
     let value = match kind {
         UnitKind::Name(text) => return Ok(Token::Name(start as u32, text)),
@@ -62,11 +63,13 @@ pub fn lex(alloc: Global, text: &[u8]) -> Result<Vec<Token>, Refusal>
     ensures slices { IfOk result (λ tokens. AreSlices text.now (seen tokens.items)) }
     ensures rise { IfOk result (λ tokens. DoRise 0 (seen tokens.items)) }
     // A text within the limit that has tokens gives them, unless memory runs out.
-    ensures only { (ts : List Tok) → length text.now ≤ SOURCE_LIMIT → HasTokens text.now ts → IsGiven (λ t. seen t.items) ts result }
+    ensures only { (ts : List Tok) → length text.now ≤ SOURCE_LIMIT → HasTokens text.now ts →
+        IsGiven (λ t. seen t.items) ts result }
     // The fault is a fault of the text.
     ensures fault { IfErr result (IsRefusal text.now) }
     // A text that has a fault is refused with it, unless memory runs out.
-    ensures refused { (code : Code) (start : ℕ) → IsFault text.now code start → MatchResult result (λ _. ⊥) (IsFaultAt code start) }
+    ensures refused { (code : Code) (start : ℕ) → IsFault text.now code start →
+        MatchResult result (λ _. ⊥) (IsFaultAt code start) }
 {
     if text.len() > SOURCE_LIMIT {
         return Err(Refusal::Fault(Fault::at(alloc, Code::LimitExceeded, 0)));

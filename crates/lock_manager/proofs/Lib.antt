@@ -1,6 +1,8 @@
 pub mod Lists
+pub mod InStep
 pub mod Heaps
 pub mod Queued
+pub mod Awaited
 pub mod Members
 pub mod GivenBack
 pub mod Slots

@@ -1,9 +1,9 @@
 -- Lists that a loop visits.
 use Rattle.std.proofs.Common.{◌≡◌, ◌≢◌, ℕ, zero, suc, ◌+◌, ◌<◌, ◌≤◌, Bool, true, false, List, [], ◌∷◌, ◌++◌, length}
-use Rattle.std.proofs.Common.{take, get_or, map, set, Some, refl, sym, ap, ◌∙◌, subst, arith, IsTrue, inl, inr}
-use Rattle.std.specs.Prelude.{slice_get}
+use Rattle.std.proofs.Common.{◌-◌, drop, take, get_or, map, set, Some, refl, sym, ap, ◌∙◌, subst, arith, IsTrue, inl, inr}
+use Rattle.std.specs.Prelude.{slice_get, not}
 use Rattle.std.specs.List.{All, Contains}
-use Rattle.std.proofs.lemmas.List.{take_all, take_more, map_push}
+use Rattle.std.proofs.lemmas.List.{take_all, take_more, map_push, drop_more}
 use Rattle.std.proofs.lemmas.List.Elements.{All-more, Contains-append_left, Contains-push}
 use Rattle.std.proofs.lemmas.Option.{slice_get_within, slice_get-get_or, get_or_from_slice_get}
 use Rattle.core_lang.specs.Theory.Items.{contains_at, map_at, some_same, all_contained, all_from, push_cases, read_at}
@@ -13,6 +13,10 @@ use Rattle.core_lang.specs.Theory.Items.{both_false}
 
 pub never_both : {P : Type 0} {b : Bool} → b ≡ true → b ≡ false → P
 never_both t f = absurd (let bad : true ≡ false = sym t ∙ f in cc)
+
+pub not_false : (b : Bool) → not b ≡ false → b ≡ true
+not_false true e = refl
+not_false false e = absurd cc
 
 pub all_fails : {X : Type 0} (P : X → Type 0) (xs : List X) (i : ℕ) (d : X) → i < length xs → (P (get_or xs i d) → ⊥) →
     (IsTrue false → All P xs) × (All P xs → IsTrue false)
@@ -104,3 +108,15 @@ same_bound a b le ge = omega (arith, le, ge)
 
 pub below_bound : (a b c : ℕ) → a < b → b ≤ c → a < c
 below_bound a b c lt le = omega (arith, lt, le)
+
+-- ---- lists that are compared from their ends
+
+pub drop_less_same : {X : Type 0} (xs ys : List X) (left : ℕ) (d : X) → 0 < left → left ≤ length xs →
+    length xs ≡ length ys → get_or xs (left - 1) d ≡ get_or ys (left - 1) d → drop left xs ≡ drop left ys →
+    drop (left - 1) xs ≡ drop (left - 1) ys
+drop_less_same {X = X} xs ys left d some le long same so_far =
+    let e : left ≡ (left - 1) + 1 = omega (arith, some) in
+    drop_more xs (left - 1) d (omega (arith, some, le))
+    ∙ ap (λ (x : X). x ∷ drop ((left - 1) + 1) xs) same
+    ∙ ap (λ (zs : List X). get_or ys (left - 1) d ∷ zs) (subst (λ (n : ℕ). drop n xs ≡ drop n ys) e so_far)
+    ∙ sym (drop_more ys (left - 1) d (omega (arith, some, le, long)))

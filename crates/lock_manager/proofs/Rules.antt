@@ -105,6 +105,36 @@ held_by_none m lock k none = by_place (place_of m lock) refl
     by_place (Some (Free values)) e = refl
     by_place (Some (Taken t)) e = absurd (none t (k.taken lock t e))
 
+-- the place of a lock's cells tells whether the section of a ticket holds the lock
+pub taken_is_held : (m : Managed) (ticket : TicketOf) (lock : Lock) (n t : ℕ) → IsKept m → Knows m ticket →
+    number_from 0 m.layout.locks lock ≡ Some n → slice_get m.places n ≡ Some (Taken t) → t ≡ ticket.thread →
+    Contains ticket.session.held lock
+taken_is_held m ticket lock n t k known found here e =
+    let own = k.taken lock t (place_at m.layout.locks m.places lock n found ∙ here) in
+    let same = some_same own.session ticket.session (sym own.is ∙ ap (session_in m.slots) e ∙ known) in
+    subst (λ (s : SessionOf). Contains s.held lock) same own.held
+
+pub held_is_taken : (m : Managed) (ticket : TicketOf) (lock : Lock) (n : ℕ) (p : LockPlace) → IsKept m → Knows m ticket →
+    number_from 0 m.layout.locks lock ≡ Some n → slice_get m.places n ≡ Some p → Contains ticket.session.held lock →
+    p ≡ Taken ticket.thread
+held_is_taken m ticket lock n p k known found here c =
+    some_same p (Taken ticket.thread)
+    (sym (place_at m.layout.locks m.places lock n found ∙ here) ∙ k.held lock ticket.thread (record { session = ticket.session; is = known; held = c }))
+
+pub free_not_held : (m : Managed) (ticket : TicketOf) (lock : Lock) (n : ℕ) (values : List Value) → IsKept m →
+    Knows m ticket → number_from 0 m.layout.locks lock ≡ Some n → slice_get m.places n ≡ Some (Free values) →
+    Contains ticket.session.held lock → ⊥
+free_not_held m ticket lock n values k known found here c = never (held_is_taken m ticket lock n (Free values) k known found here c)
+  where
+    never : Free values ≡ Taken ticket.thread → ⊥
+    never e = cc
+
+pub held_by_its_thread : (m : Managed) (ticket : TicketOf) (lock : Lock) (n t : ℕ) → IsKept m → Knows m ticket →
+    number_from 0 m.layout.locks lock ≡ Some n → slice_get m.places n ≡ Some (Taken t) →
+    Contains ticket.session.held lock → t ≡ ticket.thread
+held_by_its_thread m ticket lock n t k known found here c =
+    let same : Taken t ≡ Taken ticket.thread = held_is_taken m ticket lock n (Taken t) k known found here c in cc
+
 -- ---- no threads wait in a cycle
 
 slot_rises : (m : Managed) → IsKept m → (t : ℕ) (lock held : Lock) (o : Option SessionOf) →

@@ -8,11 +8,11 @@ ghost use Rattle.layout.specs.LockCells.{cells_of};
 ghost use Rattle.moved_cells.specs.Working.Grants.{IsWhole, cells_in, values_on, locks_of};
 ghost use Rattle.lock_manager.specs.declared.places.LockPlace.TheVariants as place;
 ghost use Rattle.lock_manager.specs.Working.Managers.{IsLayout, number_from, given_back};
-ghost use Rattle.lock_manager.specs.Working.Calls.{IsOwnWrite};
+ghost use Rattle.lock_manager.specs.Working.Calls.{AreOf};
 ghost use Rattle.lock_manager.specs.Working.Ties.{all_restored, AreNow};
 ghost use Rattle.lock_manager.specs.Working.Committed.{at_opening, with_writes, lock_values, restored, AreOfCells};
 
-use crate::fitting::are_whole;
+use crate::fitting::{are_in_step, are_whole};
 use crate::opening::{members, opening_values};
 use crate::places::LockPlace;
 use crate::values::{agrees, cells_with, have, reset, write_all};
@@ -182,29 +182,20 @@ impl<'p> Committed<'p> {
         agrees(&self.values, reads)
     }
 
+    /// Tests that the grants are of the locks in `held`, in the same order, and that each has all cells of its lock.
+    pub fn are_in_step(&self, held: &[Lock], grants: &[Grant]) -> bool
+        requires { All (Contains self.now.layout.locks) held.now }
+        ensures { IsTrue result → AreOf self.now.layout.cell_locks held.now grants.now }
+    {
+        are_in_step(self.layout, held, grants)
+    }
+
     /// Whether each grant has all cells of its lock.
     pub fn are_whole(&self, grants: &[Grant]) -> bool
         requires { All (λ g. Contains self.now.layout.locks g.lock) grants.now }
         ensures { IsTrue result ↔ All (IsWhole self.now.layout.cell_locks) grants.now }
     {
         are_whole(self.layout, grants)
-    }
-
-    /// Whether each write is of a cell that one of the locks in `held` protects.
-    #[inline(always)]
-    pub fn are_own(&self, held: &[Lock], writes: &[CellValue]) -> bool
-        ensures { IsTrue result ↔ All (IsOwnWrite self.now.layout.cell_locks held.now) writes.now }
-    {
-        for (cell, _value) in writes {
-            let cell = *cell as usize;
-            if cell >= self.layout.cells_count() {
-                return false;
-            }
-            if !self.layout.lock_of(cell).is_among(held) {
-                return false;
-            }
-        }
-        true
     }
 
     /// Whether the cells of `grants` have the values that the entries leave, with `writes` applied.

@@ -3,10 +3,34 @@
 ghost use Rattle.std.specs.Prelude.{◌↔◌, IsTrue};
 ghost use Rattle.std.specs.List.{Contains, All};
 ghost use Rattle.moved_cells.specs.Working.Grants.{IsWhole, locks_of};
+ghost use Rattle.lock_manager.specs.Working.Calls.{AreOf};
 
 use layout::table::Layout;
 use locks::lock::Lock;
 use moved_cells::grant::Grant;
+
+/// Tests that the grants are of the locks in `held`, in the same order, and that each has all cells of its lock. Both
+/// lists are read once.
+pub fn are_in_step(layout: &Layout, held: &[Lock], grants: &[Grant]) -> bool
+    requires { All (Contains layout.now.locks) held.now }
+    ensures { IsTrue result → AreOf layout.now.cell_locks held.now grants.now }
+{
+    if grants.len() != held.len() {
+        return false;
+    }
+    for i in 0..held.len() {
+        let lock = held[i];
+        let grant = &grants[i];
+        if grant.lock() != lock {
+            return false;
+        }
+        let cells = layout.cells_of(lock);
+        if grant.values().len() != cells as usize {
+            return false;
+        }
+    }
+    true
+}
 
 // Whether one of the grants is of `lock`.
 fn has_grant(grants: &[Grant], lock: Lock) -> bool

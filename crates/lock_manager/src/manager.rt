@@ -1,12 +1,13 @@
 //! The lock manager.
 
-ghost use Rattle.std.specs.Prelude.{◌≡◌, ◌↔◌, ◌<◌, [], length, slice_get, Some, IfOk, OnErr, IsTrue, is_some};
+ghost use Rattle.std.specs.Prelude.{◌≡◌, ◌↔◌, ◌<◌, ◌≤◌, [], length, slice_get, Some, IfOk, OnErr, IsTrue, is_some};
 ghost use Rattle.std.specs.List.{Contains, All};
 ghost use Rattle.locks.specs.Waiting.{HasNoCycle};
 ghost use Rattle.history.specs.Working.Histories.{IsWithin};
 ghost use Rattle.lock_manager.specs.Manager.{session_of, IsQuiet};
 ghost use Rattle.lock_manager.specs.Working.Managers.{IsLayout, IsKept, opened, waiting_for, holder_of, cell_of, askers_of};
-ghost use Rattle.lock_manager.specs.Working.Calls.{Begins, Answers, CanAsk, Knows, Fits, CanRelease, Releases, GivesUp, AreOf, AreItsGrants};
+ghost use Rattle.lock_manager.specs.Working.Ties.{awaiting as awaiting_in};
+ghost use Rattle.lock_manager.specs.Working.Calls.{Begins, Answers, CanAsk, Knows, Fits, CanRelease, Releases, GivesUp, AreOf, AreItsGrants, IsOwnWrite};
 
 use crate::answer::Answer;
 use crate::asking::comes_after;
@@ -19,7 +20,7 @@ use crate::sections::Sections;
 use crate::ticket::{Receipt, Spare, Ticket};
 use core_lang::value::Value;
 use history::entries::History;
-use history::kept::EntryRef;
+use history::kept::{CellValue, EntryRef};
 use layout::room::Room;
 use layout::table::Layout;
 use locks::lock::Lock;
@@ -27,6 +28,9 @@ use moved_cells::grant::Grant;
 use source::memory::NoMemory;
 use std::alloc::Global;
 use std::marker::Model;
+
+/// The most locks of a section that are compared with all waiters at its end.
+const FEW: usize = 8;
 
 /// The lock manager: the places of each lock's cells, the waiting threads, the open sections and the history. Its value
 /// is all of these.
@@ -156,13 +160,45 @@ impl<'p> Manager<'p> {
         history::laws::one_entry_more();
         history::laws::commuting();
         let position = self.history.len();
-        let (thread, pass) = ticket.woken(&self.queue);
+        let awaiting = self.awaiting(&ticket);
+        let (thread, pass) = ticket.woken(&self.queue, awaiting);
         self.committed.overwrite(entry.writes());
         let cells = self.sections.cells(thread);
         self.history.enter(cells, entry);
         self.committed.put_back(&mut self.places, grants);
         self.sections.close(thread);
         Receipt { position, pass }
+    }
+
+    // At least the number of threads that wait for a lock that the section of `ticket` holds. If it holds few locks, all
+    // waiters are counted, which is faster.
+    fn awaiting(&self, ticket: &Ticket) -> usize
+        requires { Knows self.now ticket.now }
+        ensures { awaiting_in self.now.waiters ticket.now.session.held ≤ result }
+    {
+        let waiters = self.queue.waiters();
+        if ticket.held().len() <= FEW {
+            return waiters.len();
+        }
+        let mut count = 0;
+        for waiter in waiters {
+            if self.has(ticket, waiter.lock) {
+                count += 1;
+            }
+        }
+        count
+    }
+
+    // Whether the section of `ticket` holds `lock`.
+    fn has(&self, ticket: &Ticket, lock: Lock) -> bool
+        requires { Knows self.now ticket.now }
+        ensures { IsTrue result ↔ Contains ticket.now.session.held lock }
+    {
+        if self.committed.has_lock(lock) {
+            self.is_taken(ticket, lock)
+        } else {
+            false
+        }
     }
 
     /// Ends the section of `ticket` without an entry, if `grants` are exactly those of its thread's slot. Otherwise the
@@ -230,7 +266,7 @@ impl<'p> Manager<'p> {
         if !self.committed.agrees(entry.reads()) {
             return false;
         }
-        if !self.committed.are_own(session.held(), entry.writes()) {
+        if !self.are_own(ticket, entry.writes()) {
             return false;
         }
         self.committed.are_now(grants, entry.writes())
@@ -246,13 +282,53 @@ impl<'p> Manager<'p> {
         }
     }
 
-    // Whether `grants` are of exactly the locks in `held`.
+    // Whether each write is of a cell whose lock the section of `ticket` holds.
+    #[inline(always)]
+    fn are_own(&self, ticket: &Ticket, writes: &[CellValue]) -> bool
+        requires { Knows self.now ticket.now }
+        ensures { IsTrue result ↔ All (IsOwnWrite self.now.layout.cell_locks ticket.now.session.held) writes.now }
+    {
+        for write in writes {
+            if !self.is_own(ticket, *write) {
+                return false;
+            }
+        }
+        true
+    }
+
+    // Whether `write` is of a cell whose lock the section of `ticket` holds: the place of the lock's cells tells it.
+    fn is_own(&self, ticket: &Ticket, write: CellValue) -> bool
+        requires { Knows self.now ticket.now }
+        ensures { IsTrue result ↔ IsOwnWrite self.now.layout.cell_locks ticket.now.session.held write }
+    {
+        match self.committed.lock_of(write.0 as usize) {
+            Some(lock) => self.is_taken(ticket, lock),
+            None => false,
+        }
+    }
+
+    // Whether the cells of `lock` are with the section of `ticket`.
+    fn is_taken(&self, ticket: &Ticket, lock: Lock) -> bool
+        requires known { Knows self.now ticket.now }
+        requires listed { Contains self.now.layout.locks lock }
+        ensures { IsTrue result ↔ Contains ticket.now.session.held lock }
+    {
+        match &self.places[self.committed.number_of(lock)] {
+            LockPlace::Free(_) => false,
+            LockPlace::Taken(thread) => *thread == ticket.thread(),
+        }
+    }
+
+    // Whether `grants` are of exactly the locks in `held`. They mostly are, in the order of the locks: one pass tells.
     fn are_of(&self, held: &[Lock], grants: &[Grant]) -> bool
         requires { All (Contains self.now.layout.locks) held.now }
         ensures { IsTrue result ↔ AreOf self.now.layout.cell_locks held.now grants.now }
     {
         if grants.len() != held.len() {
             return false;
+        }
+        if self.committed.are_in_step(held, grants) {
+            return true;
         }
         if !all_granted(held, grants) {
             return false;

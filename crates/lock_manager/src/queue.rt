@@ -65,6 +65,26 @@ impl Queue {
         remove_all(&mut self.waiters, thread);
     }
 
+    /// The waiters, in the order in which they first asked.
+    pub fn waiters(&self) -> &[Waiter]
+        ensures { result.now ≡ self.now }
+    {
+        self.waiters.as_slice()
+    }
+
+    /// The number of threads that wait for `lock`.
+    pub fn count(&self, lock: Lock) -> usize
+        ensures { result ≡ length (waiting_in self.now lock) }
+    {
+        let mut count = 0;
+        for waiter in &self.waiters {
+            if waiter.lock == lock {
+                count += 1;
+            }
+        }
+        count
+    }
+
     /// The thread at place `i`, from 0, among those that wait for `lock`.
     pub fn nth(&self, lock: Lock, i: usize) -> Option<u32>
         ensures { result ≡ slice_get (waiting_in self.now lock) i }

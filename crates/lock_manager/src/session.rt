@@ -152,14 +152,17 @@ impl Session {
     }
 }
 
+// Whether both lists are equal. The last locks are compared first: sections that began alike differ in these.
 fn same_locks(a: &[Lock], b: &[Lock]) -> bool
     ensures { IsTrue result ↔ (a.now ≡ b.now) }
 {
     if a.len() != b.len() {
         return false;
     }
-    for i in 0..a.len() {
-        if a[i] != b[i] {
+    let mut left = a.len();
+    while left > 0 {
+        left -= 1;
+        if a[left] != b[left] {
             return false;
         }
     }

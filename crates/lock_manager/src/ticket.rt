@@ -3,7 +3,8 @@
 ghost use Rattle.std.specs.Prelude.{◌≡◌, ◌<◌, ◌≤◌, ◌↔◌, length, slice_get, IfOk, IsTrue, OnOk, vec_len, vec_capacity};
 ghost use Rattle.history.specs.{IsWithin};
 ghost use Rattle.lock_manager.specs.Working.Sessions.{fresh, with_lock, with_ask};
-ghost use Rattle.lock_manager.specs.Working.Ties.{HasWakingRoom};
+ghost use Rattle.layout.specs.Layouts.{AreDistinct};
+ghost use Rattle.lock_manager.specs.Working.Ties.{HasWakingRoom, awaiting as awaiting_in};
 ghost use Rattle.lock_manager.specs.Working.Calls.{ticket_with, first_waiters};
 
 use crate::queue::Queue;
@@ -208,28 +209,39 @@ impl Ticket {
         pass.thread
     }
 
-    // Ends the ticket: returns its thread and its block, with the first waiter for each of its locks.
-    pub(crate) fn woken(self, queue: &Queue) -> (u32, Box<TicketBlock>)
+    // Ends the ticket: returns its thread and its block, with the first waiter for each of its locks. At most `awaiting`
+    // threads wait for one of these.
+    pub(crate) fn woken(self, queue: &Queue, awaiting: usize) -> (u32, Box<TicketBlock>)
+        requires distinct { AreDistinct self.session.held }
+        requires awaiting { awaiting_in queue.now self.session.held ≤ awaiting }
         ensures thread { result.0 ≡ self.thread }
         ensures wake { result.1.value.wake.items ≡ first_waiters queue.now self.session.held }
     {
         let Ticket { mut pass } = self;
         let block = &mut *pass;
         let thread = block.thread;
-        wake_first(block.session.held(), queue, &mut block.wake);
+        wake_first(block.session.held(), queue, awaiting, &mut block.wake);
         (thread, pass)
     }
 }
 
-// Appends to `wake` the first waiter for each lock in `held` that has one.
-fn wake_first(held: &[Lock], queue: &Queue, wake: &mut Vec<u32>)
+// Appends to `wake` the first waiter for each lock in `held` that has one. After the last lock for which a thread waits
+// there is nothing to find: mostly none waits, or all wait for one lock, among thousands.
+fn wake_first(held: &[Lock], queue: &Queue, awaiting: usize, wake: &mut Vec<u32>)
     requires none { vec_len wake.old ≡ 0 }
     requires room { length held.now ≤ vec_capacity wake.old }
+    requires distinct { AreDistinct held.now }
+    requires awaiting { awaiting_in queue.now held.now ≤ awaiting }
     ensures { wake.new.items ≡ first_waiters queue.now held.now }
 {
+    let mut left = awaiting;
     for lock in held {
+        if left == 0 {
+            return;
+        }
         if let Some(first) = queue.nth(*lock, 0) {
             wake.push(first).unwrap();
+            left -= queue.count(*lock);
         }
     }
 }

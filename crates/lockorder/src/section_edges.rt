@@ -62,7 +62,8 @@ impl<'a> SectionEdges<'a> {
         requires classes { All (λ c. c < length table.old.before.items) self.now.points.now.classes.items }
         requires used { (c : ℕ) → InSet used c → c < length table.old.before.items }
         ensures classes { length table.new.before.items ≡ length table.old.before.items }
-        ensures edges { AddsEdges table.old.before.items table.new.before.items (LeadsToRoots self.now.points.now used bound) }
+        ensures edges { AddsEdges table.old.before.items table.new.before.items
+            (LeadsToRoots self.now.points.now used bound) }
     {
         for path in 0..self.points.classes.len() {
             if bound.contains(path) {

@@ -29,11 +29,11 @@ form_is_normal section p None = refl
 
 by_protection : (program : Typed) (section : Section) (base : Option StablePath) (o : Option Protection) →
     lookup o (λ (p : Protection). lookup (slice_get program.classes.items p.class) (λ (c : LockClass).
-    under c p (option_map (form_by (replacements_at section (points section)) (through_of o)) base)))
-    ≡ lookup o (λ (p : Protection). lookup (slice_get program.classes.items p.class) (λ (c : LockClass). under c p (option_map (normal_base section p) base)))
+    under section c p (option_map (form_by (replacements_at section (points section)) (through_of o)) base)))
+    ≡ lookup o (λ (p : Protection). lookup (slice_get program.classes.items p.class) (λ (c : LockClass). under section c p (option_map (normal_base section p) base)))
 by_protection program section base None = refl
 by_protection program section base (Some p) =
-    ap (λ (b : Option StablePath). lookup (slice_get program.classes.items p.class) (λ (c : LockClass). under c p b)) (form_is_normal section p base)
+    ap (λ (b : Option StablePath). lookup (slice_get program.classes.items p.class) (λ (c : LockClass). under section c p b)) (form_is_normal section p base)
 
 -- so they give the lock path of each access
 pub path_is_right : (program : Typed) (section : Section) (target : Target) →

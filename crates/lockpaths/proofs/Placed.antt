@@ -1,6 +1,6 @@
 -- Lock paths by the numbers of their normal forms, with more of these.
-use Rattle.std.proofs.Common.{◌≡◌, ◌∙◌, ℕ, ◌+◌, ◌<◌, List, [], ◌∷◌, ◌++◌, length, map, get_or, take, Option, Some}
-use Rattle.std.proofs.Common.{None, refl, sym, ap}
+use Rattle.std.proofs.Common.{◌≡◌, ◌∙◌, ℕ, ◌+◌, ◌<◌, List, [], ◌∷◌, ◌++◌, length, map, get_or, take, Option}
+use Rattle.std.proofs.Common.{refl, sym, ap}
 use Rattle.std.specs.List.{All}
 use Rattle.std.proofs.lemmas.List.{get_or_append_left, map_push, take_more}
 use Rattle.std.proofs.lemmas.List.Elements.{All-head, All-tail}
@@ -12,27 +12,31 @@ use Rattle.locks.specs.LockPaths.{StablePath, LockPath, lock_path_of}
 use Rattle.lockpaths.specs.Working.Forms.{Replacement}
 use Rattle.lockpaths.specs.Working.Nodes.{nowhere, IsGrown}
 use Rattle.lockpaths.specs.Working.States.{Known, IsKept}
+use Rattle.lockpaths.specs.declared.found.Start.{Start}
+use Rattle.lockpaths.specs.declared.found.Start.TheVariants.{GlobalLock, WholeClass, Form}
 use Rattle.lockpaths.specs.declared.found.Destination.{Destination}
 use Rattle.lockpaths.specs.Working.Gathering.{Gathered}
-use Rattle.lockpaths.specs.Working.Places.{root_at, finals_at, path_at, is_numbered, IsPlace, AreFound, gathered_of}
+use Rattle.lockpaths.specs.Working.Places.{root_at, finals_at, path_at, IsNumbered, IsPlace, AreFound, gathered_of}
 use Rattle.lockpaths.specs.Working.Told.{Seen, Told, seen}
 
 module _ (old new : List StablePath) (grown : IsGrown old new) where
   there : (n : ℕ) → n < length old → get_or new n nowhere ≡ get_or old n nowhere
   there n lt = ap (λ (ps : List StablePath). get_or ps n nowhere) grown.1 ∙ get_or_append_left old grown.0 nowhere n lt
 
-  root_same : (n : Option ℕ) → is_numbered old n → root_at new n ≡ root_at old n
-  root_same None is = refl
-  root_same (Some n) is = ap (λ (p : StablePath). Local p.root) (there n is)
+  root_same : (s : Start) → IsNumbered old s → root_at new s ≡ root_at old s
+  root_same GlobalLock is = refl
+  root_same (WholeClass s) is = refl
+  root_same (Form n) is = ap (λ (p : StablePath). Local p.root) (there n is)
 
-  finals_same : (n : Option ℕ) → is_numbered old n → finals_at new n ≡ finals_at old n
-  finals_same None is = refl
-  finals_same (Some n) is = ap (λ (p : StablePath). p.finals) (there n is)
+  finals_same : (s : Start) → IsNumbered old s → finals_at new s ≡ finals_at old s
+  finals_same GlobalLock is = refl
+  finals_same (WholeClass s) is = refl
+  finals_same (Form n) is = ap (λ (p : StablePath). p.finals) (there n is)
 
   pub path_same : (p : Destination) → IsPlace old p → path_at new p ≡ path_at old p
   path_same p is =
-      ap (λ (r : Root). record { root = r; finals = finals_at new p.node; class = p.class }) (root_same p.node is)
-      ∙ ap (λ (fs : List ℕ). record { root = root_at old p.node; finals = fs; class = p.class }) (finals_same p.node is)
+      ap (λ (r : Root). record { root = r; finals = finals_at new p.start; class = p.class }) (root_same p.start is)
+      ∙ ap (λ (fs : List ℕ). record { root = root_at old p.start; finals = fs; class = p.class }) (finals_same p.start is)
 
   pub paths_same : (ps : List Destination) → All (IsPlace old) ps → map (path_at new) ps ≡ map (path_at old) ps
   paths_same [] all = refl

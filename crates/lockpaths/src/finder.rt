@@ -3,6 +3,8 @@
 ghost use Rattle.std.specs.Prelude.{◌≡◌, [], ◌∷◌, map, Some, IfOk, OnOk};
 ghost use Rattle.std.specs.Option.{option_copied, option_map};
 ghost use Rattle.locks.specs.Locks.{protection_of};
+ghost use Rattle.locks.specs.LockPaths.{is_listed};
+ghost use Rattle.lockpaths.specs.declared.found.Start.TheVariants.{Form};
 ghost use Rattle.flow.specs.Working.PointList.{point_at};
 ghost use Rattle.flow.specs.Points.{statement};
 ghost use Rattle.locks.specs.Accesses.{access, global, element, field, in_path, in_expr, in_exprs, in_condition, in_action};
@@ -10,7 +12,7 @@ ghost use Rattle.lockpaths.specs.Working.Told.{seen};
 ghost use Rattle.lockpaths.specs.Working.Finding.{IsLockOf, IsTold, in_all, over, over_point, over_points, over_owner, over_owners};
 
 use crate::forms::is_fixed_local;
-use crate::found::{Destination, PathCollector};
+use crate::found::{Destination, PathCollector, Start};
 use core_lang::tree::{Action, Condition, Expr, FieldStep, Path, Section, Stmt};
 use core_lang::typed::{CellOwner, LockClass, Protection, Typed};
 use flow::points::PointRef;
@@ -38,15 +40,22 @@ pub struct Finder<'a> {
 
 // The lock path of a lock field of this class at the end of a normal form, if there is a normal form.
 fn under(node: Option<usize>, class: usize) -> Option<Destination>
-    ensures { result ≡ option_map (λ n. record { node = Some n; class = class }) node }
+    ensures { result ≡ option_map (λ n. record { start = Form n; class = class }) node }
 {
     match node {
         Some(node) => Some(Destination {
-            node: Some(node),
+            start: Start::Form(node),
             class,
         }),
         None => None,
     }
+}
+
+// Whether the section lists the class in its head.
+fn is_listed(section: &Section, class: usize) -> bool
+    ensures { result ≡ is_listed section.now class }
+{
+    section.listed.contains(&class)
 }
 
 impl<'a> Finder<'a> {
@@ -85,7 +94,8 @@ impl<'a> Finder<'a> {
         Some(&field.protection)
     }
 
-    // The lock path of a field of a base, if it has one. A global lock needs no normal form.
+    // The lock path of a field of a base, if it has one. A global lock needs no normal form, and neither does a class
+    // that is taken whole.
     fn lock(
         &self,
         structure: usize,
@@ -101,8 +111,17 @@ impl<'a> Finder<'a> {
         };
         let class = protection.class;
         match self.program.classes.get(class) {
-            Some(LockClass::Global(_)) => Ok(Some(Destination { node: None, class })),
-            Some(LockClass::Field { .. }) => {
+            Some(LockClass::Global(_)) => Ok(Some(Destination {
+                start: Start::GlobalLock,
+                class,
+            })),
+            Some(LockClass::Field { structure, .. }) => {
+                if is_listed(self.section, class) {
+                    return Ok(Some(Destination {
+                        start: Start::WholeClass(*structure),
+                        class,
+                    }));
+                }
                 if base.is_behind {
                     return Ok(None);
                 }
@@ -127,7 +146,8 @@ impl<'a> Finder<'a> {
         found: &mut PathCollector,
     ) -> Result<(), NoMemory>
         requires { IsTold base }
-        ensures { OnOk result (seen found.new ≡ over self.now (seen found.old) (access base.entry.start (field base.entry.local base.entry.fields.now structure number) ∷ [])) }
+        ensures { OnOk result (seen found.new ≡ over self.now (seen found.old)
+            (access base.entry.start (field base.entry.local base.entry.fields.now structure number) ∷ [])) }
     {
         let place = self.lock(structure, number, base, found)?;
         found.meet(base.start, place)

@@ -5,7 +5,7 @@ ghost use Rattle.std.specs.Option.{option_map};
 ghost use Rattle.locks.specs.LockPaths.{global_path, lock_path_of, same_path};
 ghost use Rattle.lockpaths.specs.Working.States.{IsFormOf};
 ghost use Rattle.lockpaths.specs.Working.Gathering.{nothing_yet, place_from};
-ghost use Rattle.lockpaths.specs.Working.Places.{IsPlace, has_same_path, path_at};
+ghost use Rattle.lockpaths.specs.Working.Places.{IsPlace, begins_alike, path_at};
 ghost use Rattle.lockpaths.specs.Working.Told.{seen, ended_told, met_told, told_with_new};
 
 use crate::forms::Forms;
@@ -18,11 +18,22 @@ use source::mistake::{Mistake, report};
 use std::alloc::Global;
 use std::marker::Model;
 
-/// A lock path: a global lock, or a lock field at the end of a normal form.
+/// What a lock path begins with.
+#[derive(Clone, Copy)]
+pub enum Start {
+    /// Nothing: it is a global lock.
+    GlobalLock,
+    /// Nothing: it is a whole class, of the struct with this number.
+    WholeClass(usize),
+    /// A normal form, as the index of a node.
+    Form(usize),
+}
+
+/// A lock path: a global lock, a whole class, or a lock field at the end of a normal form.
 #[derive(Clone, Copy)]
 pub struct Destination {
-    /// The normal form, as the index of a node; `None` for a global lock.
-    pub node: Option<usize>,
+    /// What it begins with.
+    pub start: Start,
     /// The class of the lock.
     pub class: usize,
 }
@@ -85,15 +96,16 @@ impl PathCollector {
         self.forms.form_at(section, local, fields, through)
     }
 
-    // Whether two lock paths have one normal form, or are both global locks.
-    fn has_same_path(&self, a: Destination, b: Destination) -> bool
+    // Whether two lock paths have one normal form, or are both global locks or whole classes of one struct.
+    fn begins_alike(&self, a: Destination, b: Destination) -> bool
         requires a { IsPlace self.now.known.paths a }
         requires b { IsPlace self.now.known.paths b }
-        ensures { result ≡ has_same_path self.now.known.paths a.node b.node }
+        ensures { result ≡ begins_alike self.now.known.paths a.start b.start }
     {
-        match (a.node, b.node) {
-            (None, None) => true,
-            (Some(a), Some(b)) => self.forms.is_same(a, b),
+        match (a.start, b.start) {
+            (Start::GlobalLock, Start::GlobalLock) => true,
+            (Start::WholeClass(a), Start::WholeClass(b)) => a == b,
+            (Start::Form(a), Start::Form(b)) => self.forms.is_same(a, b),
             _ => false,
         }
     }
@@ -103,7 +115,7 @@ impl PathCollector {
         requires b { IsPlace self.now.known.paths b }
         ensures { result ≡ same_path (path_at self.now.known.paths a) (path_at self.now.known.paths b) }
     {
-        self.has_same_path(a, b) && a.class == b.class
+        self.begins_alike(a, b) && a.class == b.class
     }
 
     // The index of a lock path, if it was met before.
@@ -123,7 +135,8 @@ impl PathCollector {
     /// Notes an access that starts at `start` and has this lock path, if it has one.
     pub fn meet(&mut self, start: usize, place: Option<Destination>) -> Result<(), NoMemory>
         requires { IfSome place (IsPlace self.old.known.paths) }
-        ensures { OnOk result (seen self.new ≡ met_told (seen self.old) start (option_map (path_at self.old.known.paths) place)) }
+        ensures { OnOk result
+            (seen self.new ≡ met_told (seen self.old) start (option_map (path_at self.old.known.paths) place)) }
     {
         let Some(place) = place else {
             report(&mut self.least, Code::UnstableBase, start);
@@ -143,7 +156,13 @@ impl PathCollector {
         ensures { OnOk result (seen self.new ≡ met_told (seen self.old) start (option_map global_path class)) }
     {
         match class {
-            Some(class) => self.meet(start, Some(Destination { node: None, class })),
+            Some(class) => {
+                let place = Destination {
+                    start: Start::GlobalLock,
+                    class,
+                };
+                self.meet(start, Some(place))
+            }
             None => self.meet(start, None),
         }
     }
@@ -151,7 +170,8 @@ impl PathCollector {
     // Adds a path that was not met before.
     fn add(&mut self, start: usize, place: Destination) -> Result<(), NoMemory>
         requires { IsPlace self.old.known.paths place }
-        ensures { OnOk result (seen self.new ≡ told_with_new (seen self.old) start (path_at self.old.known.paths place)) }
+        ensures { OnOk result
+            (seen self.new ≡ told_with_new (seen self.old) start (path_at self.old.known.paths place)) }
     {
         let number = self.places.len();
         if number > PATH_LIMIT {
@@ -178,18 +198,24 @@ impl PathCollector {
         requires { IsPlace self.now.known.paths place }
         ensures { IfOk result (λ path. lock_path_of path ≡ path_at self.now.known.paths place) }
     {
-        match place.node {
-            None => Ok(LockPath {
+        let class = place.class;
+        match place.start {
+            Start::GlobalLock => Ok(LockPath {
                 root: Root::GlobalLock,
                 finals: Vec::new(self.alloc),
-                class: place.class,
+                class,
             }),
-            Some(node) => {
+            Start::WholeClass(structure) => Ok(LockPath {
+                root: Root::WholeClass(structure),
+                finals: Vec::new(self.alloc),
+                class,
+            }),
+            Start::Form(node) => {
                 let form = self.forms.path(node)?;
                 Ok(LockPath {
                     root: Root::Local(form.root),
                     finals: form.finals,
-                    class: place.class,
+                    class,
                 })
             }
         }

@@ -107,8 +107,8 @@ fn gather(alloc: Global, program: &Typed) -> Result<(Vec<SectionPaths>, Option<M
 ///
 /// # Errors
 ///
-/// - `E13` at the first name of an access under an object's lock through a base that can change, and at a `var` that a
-///   `where` names.
+/// - `E13` at the first name of an access under an object's lock through a base that can change, unless the section
+///   takes the lock's class whole, and at a `var` that a `where` names.
 /// - `E15` at the first name of the access that gives a section its 65th lock path.
 /// - Out of memory.
 pub fn paths(alloc: Global, program: &Typed) -> Result<Paths, Refusal>

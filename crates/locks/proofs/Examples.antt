@@ -52,7 +52,8 @@ use Rattle.core_lang.specs.declared.typed.Struct.{Struct}
 use Rattle.locks.specs.Texts.{path_text, class_name}
 use Rattle.locks.specs.Faults.{IsFault, unstable_base, unstable as unstable_at}
 use Rattle.locks.specs.Locks.{lock_of_cell}
-use Rattle.locks.specs.LockPaths.{LockPath, lock_paths, lock_path, global_path, lock_named}
+use Rattle.locks.specs.LockPaths.{LockPath, lock_paths, lock_path, global_path, whole_class, locks_named}
+use Rattle.locks.specs.LockPaths.{most_locks}
 
 module _ (alloc : Global) (name : String Global) where
   abbrev pub vec : {X : Type 0} (xs : List X) → length xs < 2 ^ 63 → Vec X Global
@@ -125,6 +126,7 @@ module _ (alloc : Global) (name : String Global) where
     parameters = 1;
     locals = vec (parameter Integer ∷ []) (omega arith);
     result_type = None;
+    listed = none;
     result = None;
     body = vec (record {
       start = 58;
@@ -160,6 +162,7 @@ module _ (alloc : Global) (name : String Global) where
     parameters = 0;
     locals = none;
     result_type = None;
+    listed = none;
     result = None;
     body = vec (record {
       start = 58;
@@ -178,6 +181,7 @@ module _ (alloc : Global) (name : String Global) where
     parameters = 0;
     locals = none;
     result_type = None;
+    listed = none;
     result = None;
     body = vec (record { start = 0; action = While' (Compare Greater (GlobalExpr 7 0) (Number (pos 0))) none end_of-Stmt } ∷ []) (omega arith);
   }
@@ -222,6 +226,7 @@ module _ (alloc : Global) (name : String Global) where
     parameters = 3;
     locals = vec (parameter account ∷ parameter account ∷ parameter Integer ∷ []) (omega arith);
     result_type = Some Integer;
+    listed = none;
     result = Some (record { start = 60; value = Place (one_field 67 1 0 0) });
     body = vec (record { start = 10; action = SetField (a_path 10 0 [] (omega arith)) 0 0 (plus (Place (one_field 18 0 0 0)) (lone 26 2)) }
         ∷ record { start = 30; action = SetField (a_path 30 1 [] (omega arith)) 0 0 (plus (Place (one_field 38 1 0 0)) (lone 46 2)) } ∷ []) (omega arith);
@@ -240,6 +245,7 @@ module _ (alloc : Global) (name : String Global) where
     parameters = 1;
     locals = vec (parameter account ∷ c ∷ []) (omega arith);
     result_type = None;
+    listed = none;
     result = None;
     body = vec (record { start = 10; action = Bind 1 (Place (record { start = 20; local = 0; fields = none; in_parentheses = in_parentheses })) }
         ∷ record { start = 30; action = SetField (a_path 30 1 [] (omega arith)) 0 0 (Number (pos 1)) } ∷ []) (omega arith);
@@ -264,6 +270,7 @@ module _ (alloc : Global) (name : String Global) where
     parameters = 1;
     locals = vec (parameter account ∷ a_let account ∷ []) (omega arith);
     result_type = None;
+    listed = none;
     result = None;
     body = vec (record { start = 10; action = Bind 1 (Place (one_field 24 0 0 1)) }
         ∷ record { start = 40; action = SetField (a_path 40 1 [] (omega arith)) 0 0 (Number (pos 1)) } ∷ []) (omega arith);
@@ -296,6 +303,7 @@ module _ (alloc : Global) (name : String Global) where
     parameters = 0;
     locals = none;
     result_type = None;
+    listed = none;
     result = None;
     body = vec (record { start = 13; action = SetGlobal 1 (Number (pos 1)) } ∷ record { start = 20; action = SetGlobal 0 (Number (pos 2)) } ∷ []) (omega arith);
   }
@@ -351,6 +359,7 @@ module _ (alloc : Global) (name : String Global) where
     parameters = 2;
     locals = vec (parameter (Reference 1) ∷ parameter (Reference 1) ∷ []) (omega arith);
     result_type = None;
+    listed = none;
     result = None;
     body = vec (record { start = 30; action = SetField (a_path 30 0 [] (omega arith)) 1 0 (Number (pos 1)) }
         ∷ record { start = 39; action = SetField (a_path 39 1 [] (omega arith)) 1 0 (Number (pos 2)) } ∷ []) (omega arith);
@@ -363,10 +372,10 @@ module _ (alloc : Global) (name : String Global) where
   shared_owner_locks : map (lock_of_cell shared) (0 ∷ 1 ∷ 2 ∷ []) ≡ Some (the_lock 0 0) ∷ Some (the_lock 0 0) ∷ Some (the_lock 0 0) ∷ []
   shared_owner_locks = refl
 
-  shared_owner_named : map (λ path. lock_named path shared.shape (Ref (Some 1) ∷ Ref (Some 2) ∷ [])) (lock_paths shared shared_owner) ≡ Some (the_lock 0 0) ∷ Some (the_lock 0 0) ∷ []
+  shared_owner_named : map (λ path. locks_named path shared.shape (Ref (Some 1) ∷ Ref (Some 2) ∷ [])) (lock_paths shared shared_owner) ≡ (the_lock 0 0 ∷ []) ∷ (the_lock 0 0 ∷ []) ∷ []
   shared_owner_named = refl
 
-  null_root : lock_named (path_at 0 (0 ∷ []) 0) shared.shape (Ref None ∷ Ref (Some 2) ∷ []) ≡ None
+  null_root : locks_named (path_at 0 (0 ∷ []) 0) shared.shape (Ref None ∷ Ref (Some 2) ∷ []) ≡ []
   null_root = refl
 
   -- ---- scopes: if (k > 0) { let b: ref Acc = a; b.bal = 1; } else { print k; } let c: ref Acc = a; print k;
@@ -377,6 +386,7 @@ module _ (alloc : Global) (name : String Global) where
     parameters = 2;
     locals = vec (parameter account ∷ parameter Integer ∷ a_let account ∷ a_let account ∷ []) (omega arith);
     result_type = None;
+    listed = none;
     result = None;
     body = vec (record {
       start = 0;
@@ -404,6 +414,7 @@ module _ (alloc : Global) (name : String Global) where
     parameters = 1;
     locals = vec (parameter (Reference 1) ∷ a_let (Reference 1) ∷ a_let (Reference 0) ∷ []) (omega arith);
     result_type = None;
+    listed = none;
     result = None;
     body = vec (record { start = 0; action = Bind 1 (lone 10 0) }
         ∷ record { start = 20; action = Bind 2 (Place (a_path 30 1 (step.Final 1 0 ∷ []) (omega arith))) }
@@ -437,6 +448,7 @@ module _ (alloc : Global) (name : String Global) where
     parameters = 0;
     locals = vec (a_let (Reference 0) ∷ []) (omega arith);
     result_type = None;
+    listed = none;
     result = None;
     body = vec (record { start = 0; action = SetGlobal 0 (Number (pos 1)) }
         ∷ record { start = 10; action = Bind 0 (Member' 0 boxed (Number (pos 0))) }
@@ -484,6 +496,7 @@ module _ (alloc : Global) (name : String Global) where
     parameters = 1;
     locals = vec (parameter (Reference from) ∷ a_let (Reference to) ∷ []) (omega arith);
     result_type = None;
+    listed = none;
     result = None;
     body = vec (record { start = 10; action = Bind 1 (Place (one_field 24 0 from 0)) } ∷ record { start = 40; action = SetField (a_path 40 1 [] (omega arith)) to 1 (Number (pos 1)) } ∷ []) (omega arith);
   }
@@ -502,6 +515,28 @@ module _ (alloc : Global) (name : String Global) where
   across_paths : lock_paths across (crosses 0 1) ≡ path_at 0 [] 0 ∷ path_at 1 [] 1 ∷ []
   across_paths = refl
 
+  -- ---- whole classes: the same sections with `lock(..)` in their heads
+
+  abbrev pub listing : ℕ → Section → Section
+  listing number section = record section { listed = vec (number ∷ []) (omega arith) }
+
+  -- any base will do
+  listed_base : map (lock_path accounts (listing 0 (alias false (a_var account)))) (accesses (alias false (a_var account))) ≡ Some (whole_class 0 0) ∷ []
+  listed_base = refl
+
+  -- one path of the class; that of another class is what it was
+  listed_across : lock_paths across (listing 1 (crosses 0 1)) ≡ path_at 0 [] 0 ∷ whole_class 1 1 ∷ []
+  listed_across = refl
+
+  listed_text : path_text across (crosses 0 1) (whole_class 1 1) ≡ string_bytes name ++ codes "." ++ string_bytes name
+  listed_text = refl
+
+  listed_named : locks_named (whole_class 5 1) shared.shape [] ≡ the_lock 5 1 ∷ the_lock 5 2 ∷ []
+  listed_named = refl
+
+  listed_many : most_locks shared.shape (path_at 0 [] 0 ∷ whole_class 5 1 ∷ global_path 6 ∷ []) ≡ 4
+  listed_many = refl
+
   -- ---- arrays: a[a[0]] = n;
 
   abbrev pub arrays : Section
@@ -510,6 +545,7 @@ module _ (alloc : Global) (name : String Global) where
     parameters = 0;
     locals = none;
     result_type = None;
+    listed = none;
     result = None;
     body = vec (record { start = 10; action = SetElement 0 (Element' 12 0 boxed (Number (pos 0))) (GlobalExpr 20 0) } ∷ []) (omega arith);
   }
@@ -530,6 +566,7 @@ module _ (alloc : Global) (name : String Global) where
     parameters = 1;
     locals = vec (parameter (Reference 0) ∷ record { name = name; kind = kind; value_type = Reference 1 } ∷ a_let (Reference 1) ∷ a_let (Reference 1) ∷ []) (omega arith);
     result_type = None;
+    listed = none;
     result = None;
     body = vec (record { start = 10; action = Bind 1 Null }
         ∷ record { start = 20; action = Bind 2 (Owned' boxed (lone 24 1) 1 0 28 0) }
@@ -565,6 +602,7 @@ module _ (alloc : Global) (name : String Global) where
     parameters = 1;
     locals = vec (parameter Integer ∷ []) (omega arith);
     result_type = Some Integer;
+    listed = none;
     body = vec (record { start = 10; action = SetGlobal 0 (plus (n_at 14) (lone 18 0)) } ∷ []) (omega arith);
     result = Some (record { start = 20; value = n_at 27 });
   }
@@ -578,6 +616,7 @@ module _ (alloc : Global) (name : String Global) where
     parameters = 0;
     locals = vec (a_let Integer ∷ []) (omega arith);
     result_type = Some Integer;
+    listed = none;
     body = vec (record { start = 30; action = Call 0 (vec (Number (pos 2) ∷ []) (omega arith)) (Some 0) }
         ∷ record { start = 40; action = Call 0 (vec (plus (lone 44 0) (Number (pos 1)) ∷ []) (omega arith)) None } ∷ []) (omega arith);
     result = Some (record { start = 50; value = n_at 57 });
@@ -594,6 +633,7 @@ module _ (alloc : Global) (name : String Global) where
     parameters = 0;
     locals = vec (a_let Integer ∷ a_let Integer ∷ a_let Integer ∷ a_let Integer ∷ []) (omega arith);
     result_type = Some Integer;
+    listed = none;
     body = vec (record { start = 30; action = Bind 0 (Number (pos 2)) }
         ∷ record { start = 10; action = SetGlobal 0 (plus (n_at 14) (lone 18 0)) }
         ∷ record { start = 20; action = Bind 1 (n_at 27) }
@@ -690,6 +730,7 @@ module _ (alloc : Global) (name : String Global) where
     parameters = 0;
     locals = none;
     result_type = None;
+    listed = none;
     result = None;
     body = vec (record {
       start = 10;
@@ -711,6 +752,7 @@ module _ (alloc : Global) (name : String Global) where
     parameters = 1;
     locals = vec (parameter Integer ∷ []) (omega arith);
     result_type = None;
+    listed = none;
     result = None;
     body = vec (record { start = 10; action = Print (Number (pos 7)) }
         ∷ record { start = 11; action = SetGlobal 0 (Number (pos 8)) }
@@ -723,6 +765,7 @@ module _ (alloc : Global) (name : String Global) where
     parameters = 1;
     locals = vec (parameter Integer ∷ []) (omega arith);
     result_type = None;
+    listed = none;
     result = None;
     body = vec (record { start = 10; action = Print (Number (pos 6)) }
         ∷ record { start = 11; action = Call 0 (vec (lone 18 0 ∷ []) (omega arith)) None }
@@ -738,6 +781,7 @@ module _ (alloc : Global) (name : String Global) where
     parameters = 0;
     locals = none;
     result_type = None;
+    listed = none;
     result = None;
     body = vec (record { start = 10; action = Print (Number (pos 5)) } ∷ record { start = 11; action = Call 1 (vec (Number (pos k) ∷ []) (omega arith)) None } ∷ []) (omega arith);
   }
@@ -759,6 +803,7 @@ module _ (alloc : Global) (name : String Global) where
     parameters = 0;
     locals = none;
     result_type = None;
+    listed = none;
     result = None;
     body = vec (record { start = 10; action = Call 0 none None } ∷ []) (omega arith);
   }

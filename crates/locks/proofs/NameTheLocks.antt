@@ -1,5 +1,5 @@
--- The lock that the path of an access names is the one that protects the cell that the access reaches.
-use Rattle.std.proofs.Common.{◌≡◌, ℕ, ◌+◌, List, Option, Some, Ok, refl, sym, ap, ◌∙◌, subst}
+-- The lock that protects the cell which an access reaches is among those that the path of the access names.
+use Rattle.std.proofs.Common.{◌≡◌, ℕ, ◌+◌, List, [], Option, Some, Ok, refl, sym, ap, ◌∙◌, subst}
 use Rattle.std.specs.Prelude.{slice_get}
 use Rattle.std.specs.Option.{option_map}
 use Rattle.std.specs.List.{Contains}
@@ -29,27 +29,29 @@ use Rattle.core_lang.specs.WellFormed.{IsWellFormed, EndsAt, IsGlobalLock}
 use Rattle.flow.specs.Points.{points}
 use Rattle.locks.specs.declared.lock.Lock.{Lock}
 use Rattle.locks.specs.Accesses.{Target, global, element, field, accesses_at}
-use Rattle.locks.specs.Locks.{led_to, global_lock, lock_of, protection_of, walked, protecting, lock_of_cell}
+use Rattle.locks.specs.Locks.{led_to, global_lock, object_lock, members_of, lock_of, protection_of, walked, protecting}
+use Rattle.locks.specs.Locks.{lock_of_cell}
 use Rattle.locks.specs.LockPaths.{LockPath, bindings, normal_form, extended, global_path, class_if_global}
-use Rattle.locks.specs.LockPaths.{target_path, lock_named, object_at, LetsAgree}
+use Rattle.locks.specs.LockPaths.{target_path, object_at, one_or_none, Names, LetsAgree}
 use Rattle.locks.specs.Working.Reached.{Reaches, to_global, to_element, to_field}
 use Rattle.locks.specs.Working.Laws.{PathsNameTheLocks}
+use Rattle.locks.specs.Theory.Members.{is_member}
 use Rattle.flow.specs.Theory.Each.{each_there}
 use Rattle.flow.specs.Theory.PointTypes.{IsTypedPoint, points_typed}
 use Rattle.locks.proofs.Lists.{each_at}
 use Rattle.locks.proofs.Scoped.{Closed, IsSoundPoint, bound_once, sound_point}
 use Rattle.locks.proofs.Named.{IsTargetNamed, IsNamed, accesses_named}
 use Rattle.locks.proofs.Normal.{stable_parts, IsFixed, IsRoot}
-use Rattle.locks.proofs.InScope.{IsFieldPath, of_global, of_object, field_path}
+use Rattle.locks.proofs.InScope.{IsFieldPath, of_global, of_whole, of_object, field_path}
 use Rattle.locks.proofs.TypedAccesses.{IsTypedTarget, IsTyped, accesses_typed}
 use Rattle.locks.proofs.Finals.{with_ok, found_ok, field_at, led_from, along_named, object_append, value_there}
 use Rattle.locks.proofs.Finals.{along_sound, led_there, index_at}
 use Rattle.locks.proofs.Agreeing.{normal_same}
-use Rattle.core_lang.specs.Theory.Items.{lookup_some, map_some}
+use Rattle.core_lang.specs.Theory.Items.{in_first, in_map, lookup_some, map_some}
 
 -- the path names the lock that protects the cell
-abbrev Names : Typed → List Value → LockPath → ℕ → Type 0
-Names program locals path cell = (lock : Lock) × (lock_named path program.shape locals ≡ Some lock) × (lock_of_cell program cell ≡ Some lock)
+abbrev NamesLockOf : Typed → List Value → LockPath → ℕ → Type 0
+NamesLockOf program locals path cell = (lock : Lock) × Names path program.shape locals lock × (lock_of_cell program cell ≡ Some lock)
 
 module _ (program : Typed) (section : Section) (locals heap : List Value) where
   cell_lock : (cell : ℕ) (c : Cell) (o : CellOwner) (lock : Lock) → slice_get program.cells.items cell ≡ Some c →
@@ -63,8 +65,9 @@ module _ (program : Typed) (section : Section) (locals heap : List Value) where
   at_cell cell place c e here = ap (slice_get program.cells.items) e ∙ here
 
   named_global : (path : LockPath) (number : ℕ) → path ≡ global_path number →
-      lock_named path program.shape locals ≡ Some (global_lock number)
-  named_global path number e = ap (λ (x : LockPath). lock_named x program.shape locals) e
+      Names path program.shape locals (global_lock number)
+  named_global path number e =
+      subst (λ (x : LockPath). Names x program.shape locals (global_lock number)) (sym e) (in_first (global_lock number) [])
 
   -- ---- globals and elements
 
@@ -78,7 +81,7 @@ module _ (program : Typed) (section : Section) (locals heap : List Value) where
   global_protected (owner.Field o f) number e = absurd (none-some number e)
 
   global_named : (cell : ℕ) (path : LockPath) → target_path program section (global cell) ≡ Some path →
-      Names program locals path cell
+      NamesLockOf program locals path cell
   global_named cell path e =
       let x = lookup_some (slice_get program.cells.items cell) (λ (y : Cell). option_map global_path (class_if_global program y.owner)) path e in
       let y = map_some global_path (class_if_global program x.0.owner) path x.2 in
@@ -86,7 +89,7 @@ module _ (program : Typed) (section : Section) (locals heap : List Value) where
 
   element_named : IsWellFormed program → (array cell : ℕ) (index : Value) (path : LockPath) →
       element_cell program.shape array index ≡ Ok cell →
-      target_path program section (element array) ≡ Some path → Names program locals path cell
+      target_path program section (element array) ≡ Some path → NamesLockOf program locals path cell
   element_named well array cell index path at e =
       let x = lookup_some (slice_get program.shape.arrays.items array) (λ (y : Array). Some (global_path y.class)) path e in
       let is : path ≡ global_path x.0.class = let s : Some (global_path x.0.class) ≡ Some path = x.2 in cc in
@@ -121,7 +124,8 @@ module _ (program : Typed) (section : Section) (locals heap : List Value) where
   -- a field's protection leads from its object to one with the lock
   ends_there : IsWellFormed program → (s f o : ℕ) (p : Protection) (s' l : ℕ) → protection_of program s f ≡ Some p →
       struct_of program.shape o ≡ Some s →
-      slice_get program.classes.items p.class ≡ Some (class.Field s' l) → (n : ℕ) × (led_to program.shape o p.through.items ≡ Some n)
+      slice_get program.classes.items p.class ≡ Some (class.Field s' l) →
+      (n : ℕ) × (led_to program.shape o p.through.items ≡ Some n) × (struct_of program.shape n ≡ Some s')
   ends_there well s f o p s' l has struct_is is =
       let x = lookup_some (slice_get program.structs.items s) (λ (y : Struct). lookup (slice_get y.fields.items f) (λ (z : Field). Some z.protection)) p has in
       let y = lookup_some (slice_get x.0.fields.items f) (λ (z : Field). Some z.protection) p x.2 in
@@ -141,11 +145,19 @@ module _ (program : Typed) (section : Section) (locals heap : List Value) where
         Contains scope local →
         slice_get locals local ≡ Some v → along program.shape heap v base ≡ Ok (Ref (Some o)) → struct_of program.shape o ≡ Some s →
         protection_of program s f ≡ Some p → IsFieldPath program section local base p path →
-        (lock : Lock) × (lock_named path program.shape locals ≡ Some lock) × (walked program p o ≡ Some lock)
+        (lock : Lock) × Names path program.shape locals lock × (walked program p o ≡ Some lock)
     field_path_named local s f o base v p path c here leads struct_is has (of_global g is single e) =
         (global_lock p.class, named_global path p.class e, of_class p o g is ∙ global_of g p.class (led_to program.shape o p.through.items) single)
+    field_path_named local s f o base v p path c here leads struct_is has (of_whole s' l is listed e) =
+        let made : ℕ → Lock = object_lock p.class in
+        let end = ends_there well s f o p s' l has struct_is is in (
+          made end.0,
+          subst (λ (x : LockPath). Names x program.shape locals (made end.0)) (sym e)
+              (in_map made (members_of program.shape s') end.0 (is_member program well.laid_out end.0 s' end.2)),
+          of_class p o (class.Field s' l) is ∙ ap (option_map made) end.1,
+        )
     field_path_named local s f o base v p path c here leads struct_is has (of_object s' l q is stable_is e) =
-        let made : ℕ → Lock = λ n. record { class = p.class; object = n } in
+        let made : ℕ → Lock = object_lock p.class in
         let whole = extended q p in
         let normal = normal_form section whole in
         let parts = stable_parts section local base q stable_is in
@@ -164,7 +176,8 @@ module _ (program : Typed) (section : Section) (locals heap : List Value) where
         let path_ends : object_at program.shape locals normal.root normal.finals ≡ Some end.0 =
         normal_same section scoped scope program.shape locals closed agree whole end.0 root whole_ends in (
           made end.0,
-          ap (λ (x : LockPath). lock_named x program.shape locals) e ∙ ap (option_map made) path_ends,
+          subst (λ (x : LockPath). Names x program.shape locals (made end.0)) (sym e)
+              (subst (λ (n : Option ℕ). Contains (one_or_none (option_map made n)) (made end.0)) (sym path_ends) (in_first (made end.0) [])),
           of_class p o (class.Field s' l) is ∙ ap (option_map made) end.1,
         )
 
@@ -173,7 +186,7 @@ module _ (program : Typed) (section : Section) (locals heap : List Value) where
         Contains scope local → IsTypedTarget program (local_types section.locals.items) (field local base s f) →
         target_path program section (field local base s f) ≡ Some path →
         with (found (slice_get locals local)) (λ v. with (along program.shape heap v base) (λ o. field_cell program.shape o f)) ≡ Ok cell →
-        Names program locals path cell
+        NamesLockOf program locals path cell
     field_named local s f cell base path types is_heap c typed e reached =
         let x = with_ok (found (slice_get locals local)) (λ v. with (along program.shape heap v base) (λ o. field_cell program.shape o f)) cell reached in
         let y = with_ok (along program.shape heap x.0 base) (λ o. field_cell program.shape o f) cell x.2 in
@@ -195,7 +208,7 @@ module _ (program : Typed) (section : Section) (locals heap : List Value) where
     target_named : (target : Target) (cell : ℕ) (path : LockPath) →
         HaveTypes program.shape (local_types section.locals.items) locals → IsHeap program heap →
         IsTargetNamed scope target → IsTypedTarget program (local_types section.locals.items) target → target_path program section target ≡ Some path →
-        Reaches program.shape locals heap target cell → Names program locals path cell
+        Reaches program.shape locals heap target cell → NamesLockOf program locals path cell
     target_named (global cell) cell' path types is_heap c typed e to_global = global_named cell path e
     target_named (element array) cell path types is_heap c typed e (to_element index at) = element_named well array cell index path at e
     target_named (field local base s f) cell path types is_heap c typed e (to_field reached) = field_named local s f cell base path types is_heap c typed e reached

@@ -8,3 +8,4 @@ pub mod Listings
 pub mod Lowered
 pub mod PlanLaws
 pub mod Rooms
+pub mod Sizes

@@ -216,7 +216,8 @@ impl Assembler {
         operands: &[Condition],
     ) -> Result<Operands, NoMemory>
         ensures code { OnOk result (Adds self.old self.new (blank connective operands.now)) }
-        ensures jumps { IfOk result (λ put. put.jumps.items ≡ places (length self.old.instructions.items) operands.now) }
+        ensures jumps { IfOk result
+            (λ put. put.jumps.items ≡ places (length self.old.instructions.items) operands.now) }
         ensures need { IfOk result (λ put. put.need ≡ conditions_need operands.now) }
     {
         let mut jumps = Vec::new(self.alloc);

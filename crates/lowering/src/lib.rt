@@ -14,6 +14,7 @@
 #![tactic(auto)]
 
 mod assembler;
+mod class_sizes;
 pub mod compiled;
 mod emitter;
 pub mod laws;

@@ -7,8 +7,8 @@ use Rattle.std.proofs.lemmas.List.{map-append, map-set, get_or-map, length-map}
 use Rattle.std.proofs.lemmas.List.Sums.{sum_by_push, sum_by-set}
 use Rattle.std.proofs.lemmas.Option.{slice_get_within, get_or_from_slice_get}
 use Rattle.std.proofs.Math.ListN.{length-set}
+use Rattle.std.proofs.Math.Seq.{set-append_seam}
 use Rattle.std.specs.HashMap.{HashMap, get}
-use Rattle.std.specs.declared.hash.DefaultHasher.{DefaultHasher}
 use Rattle.std.specs.declared.hash.FoldHasher.{FoldHasher}
 use Rattle.std.specs.declared.hash.BuildHasherDefault.{BuildHasherDefault}
 use Rattle.core_lang.specs.declared.value.Value.{Value}
@@ -22,7 +22,7 @@ use Rattle.outcomes.specs.Working.Tables.{hash_of, HasHash, IsLast, IsTable, Has
 use Rattle.outcomes.proofs.Lists.{set_at, replaced_at}
 use Rattle.core_lang.specs.Theory.Items.{get_some, still_at, last_at, pushed_at}
 
-module _ (start : DefaultHasher) (opening : List Value) where
+module _ (start : FoldHasher) (opening : List Value) where
   -- entries with the same hashes at the same indices below `n`
   abbrev HaveSame : List Entry → List Entry → ℕ → Type 0
   HaveSame entries others n =
@@ -106,6 +106,23 @@ module _ (start : DefaultHasher) (opening : List Value) where
           | inr new ↦ subst (λ (y : Entry). AreChanges opening y.state.changes.items) new.1 are
         ];
       }
+
+  -- the last entry, with another one before it
+  pub linked : (entries more : List Entry) (e x : Entry) (n : ℕ) (before : Option ℕ) → n ≡ length entries → more ≡ entries ++ e ∷ [] →
+      slice_get more n ≡ Some x →
+      slice_set more n (record { state = x.state; before = before }) ≡ entries ++ (record { state = e.state; before = before }) ∷ []
+  linked entries more e x n before long pushed here =
+      let there : slice_get (entries ++ e ∷ []) (length entries) ≡ Some x =
+      ap (λ (l : List Entry). slice_get l (length entries)) (sym pushed) ∙ ap (slice_get more) (sym long) ∙ here in
+      let same : x ≡ e = (let last = last_at entries e in cc) in
+      ap (λ (l : List Entry). slice_set l n (record { state = x.state; before = before })) pushed
+      ∙ ap (λ (k : ℕ). slice_set (entries ++ e ∷ []) k (record { state = x.state; before = before })) long
+      ∙ ap (λ (y : Entry). slice_set (entries ++ e ∷ []) (length entries) (record { state = y.state; before = before })) same
+      ∙ set-append_seam entries e [] (record { state = e.state; before = before })
+
+  pub within_pushed : (entries more : List Entry) (e : Entry) (n : ℕ) → n ≡ length entries → more ≡ entries ++ e ∷ [] → n < length more
+  within_pushed entries more e n long pushed =
+      let longer : length more ≡ length entries + 1 = ap (λ (l : List Entry). length l) pushed ∙ length-append entries (e ∷ []) in omega (arith, long, longer)
 
   -- ---- an entry that is replaced by one with the same hash
 

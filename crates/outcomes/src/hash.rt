@@ -6,9 +6,9 @@ ghost use Rattle.outcomes.specs.Working.Hashes.{mixed_answers};
 
 use crate::state::Change;
 use core_lang::value::{Outcome, Value};
-use std::hash::{DefaultHasher, Hasher};
+use std::hash::{FoldHasher, Hasher};
 
-fn mixed(hasher: DefaultHasher, word: u64) -> DefaultHasher
+fn mixed(hasher: FoldHasher, word: u64) -> FoldHasher
     ensures { result ≡ mixed hasher word }
 {
     let mut hasher = hasher;
@@ -27,7 +27,7 @@ fn word_of(value: Value) -> u64
     }
 }
 
-fn mixed_counts(start: DefaultHasher, done: &[usize]) -> DefaultHasher
+fn mixed_counts(start: FoldHasher, done: &[usize]) -> FoldHasher
     ensures { result ≡ mixed_all start done.now }
 {
     let mut hasher = start;
@@ -37,7 +37,7 @@ fn mixed_counts(start: DefaultHasher, done: &[usize]) -> DefaultHasher
     hasher
 }
 
-fn mixed_changes(start: DefaultHasher, changes: &[Change]) -> DefaultHasher
+fn mixed_changes(start: FoldHasher, changes: &[Change]) -> FoldHasher
     ensures { result ≡ mixed_changes start changes.now }
 {
     let mut hasher = start;
@@ -48,7 +48,7 @@ fn mixed_changes(start: DefaultHasher, changes: &[Change]) -> DefaultHasher
 }
 
 // The outcome of a call takes two words, so that no result is hashed like a trap.
-fn mixed_answer(hasher: DefaultHasher, answer: Option<Outcome>) -> DefaultHasher
+fn mixed_answer(hasher: FoldHasher, answer: Option<Outcome>) -> FoldHasher
     ensures { result ≡ mixed_answer hasher answer }
 {
     match answer {
@@ -59,7 +59,7 @@ fn mixed_answer(hasher: DefaultHasher, answer: Option<Outcome>) -> DefaultHasher
     }
 }
 
-fn mixed_answers(start: DefaultHasher, answers: &[Option<Outcome>]) -> DefaultHasher
+fn mixed_answers(start: FoldHasher, answers: &[Option<Outcome>]) -> FoldHasher
     ensures { result ≡ mixed_answers start answers.now }
 {
     let mut hasher = start;
@@ -71,7 +71,7 @@ fn mixed_answers(start: DefaultHasher, answers: &[Option<Outcome>]) -> DefaultHa
 
 /// The hash of a state, by a hasher with the keys. Equal states have equal hashes.
 pub(crate) fn hash(
-    start: DefaultHasher,
+    start: FoldHasher,
     done: &[usize],
     changes: &[Change],
     answers: &[Option<Outcome>],

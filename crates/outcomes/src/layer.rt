@@ -3,6 +3,7 @@
 ghost use Rattle.std.specs.Prelude.{◌≡◌, ◌<◌, ◌+◌, ◌^◌, ◌↔◌, [], ◌∷◌, ◌++◌, length, map, slice_set, IsTrue, OnOk, OnErr, MatchOption};
 ghost use Rattle.outcomes.specs.Working.Changes.{applied, AreChanges};
 ghost use Rattle.outcomes.specs.Working.States.{reached_of, left_with, orders_to, IsOne, IsAlike, NoneIsAlike, with_more, at};
+ghost use Rattle.outcomes.specs.Working.Tables.{IsPlace, IsKey};
 
 use crate::hash::hash;
 use crate::state::{Change, State};
@@ -11,7 +12,7 @@ use source::keyed::KeyedState;
 use source::memory::NoMemory;
 use std::alloc::Global;
 use std::collections::HashMap;
-use std::hash::{BuildHasher, DefaultHasher};
+use std::hash::{BuildHasher, FoldHasher, Hasher};
 use std::marker::Model;
 
 /// A state, with the last one before it that has the same hash.
@@ -21,8 +22,17 @@ pub(crate) struct Entry {
     pub(crate) before: Option<usize>,
 }
 
-/// A numbered set of states, in which a state is found by its contents. Its value is the list of the states, and the
-/// values of the cells before any call.
+/// The place of a state in a set.
+#[derive(Clone, Copy)]
+pub(crate) enum Place {
+    /// The number of the state.
+    Found(usize),
+    /// The hash of the state, which is not in the set. The state can be added by it.
+    Free(u64),
+}
+
+/// A numbered set of states, in which a state is found by its contents. Its value is the list of the states, the
+/// values of the cells before any call, and the hasher of states.
 #[derive(Drop)]
 pub struct Layer<'a> {
     entries: Vec<Entry>,
@@ -30,7 +40,7 @@ pub struct Layer<'a> {
     places: HashMap<u64, usize>,
     total: u64,
     // The hasher before the first word of a state.
-    start: DefaultHasher,
+    start: FoldHasher,
     // The values of the cells before any call, from which changes are counted.
     opening: &'a [Value],
 }
@@ -42,7 +52,11 @@ impl<'a> Model for Layer<'a> {
 
     ghost Value = { Layered };
 
-    ghost view = { λ l. record { opening = l.opening.now; states = map (entry_state l.opening.now) l.entries.items } };
+    ghost view = { λ l. record {
+      opening = l.opening.now;
+      states = map (entry_state l.opening.now) l.entries.items;
+      start = l.start;
+    } };
 
     ghost invariant = { λ l. IsTable l.start l.opening.now l.entries.items l.places l.total };
 }
@@ -53,11 +67,14 @@ impl<'a> Layer<'a> {
         ensures states { result.states ≡ [] }
         ensures opening { result.opening ≡ opening.now }
     {
+        // The keyed hasher is slow, so it only gives the word that all states begin with.
+        let mut start = FoldHasher::default();
+        start.write_u64(hashing.build_hasher().finish());
         Layer {
             entries: Vec::new(alloc),
             places: HashMap::new(alloc),
             total: 0,
-            start: hashing.build_hasher(),
+            start,
             opening,
         }
     }
@@ -111,6 +128,27 @@ impl<'a> Layer<'a> {
             && same_answers(&state.answers, answers)
     }
 
+    /// The place of the state that has these numbers of calls done, these changes and these outcomes.
+    pub(crate) fn place(
+        &self,
+        done: &[usize],
+        changes: &[Change],
+        answers: &[Option<Outcome>],
+    ) -> Place
+        requires { AreChanges self.now.opening changes.now }
+        ensures { IsPlace self.now done.now (left_with (applied changes.now self.now.opening) answers.now) result }
+    {
+        let key = hash(self.start, done, changes, answers);
+        let mut last = self.places.get(&key).copied();
+        while let Some(number) = last {
+            if self.is_alike(number, done, changes, answers) {
+                return Place::Found(number);
+            }
+            last = self.entries[number].before;
+        }
+        Place::Free(key)
+    }
+
     /// The number of the state that has these numbers of calls done, these changes and these outcomes, if it is in the
     /// set.
     pub fn find(
@@ -124,15 +162,10 @@ impl<'a> Layer<'a> {
             MatchOption result (NoneIsAlike done.now left self.now.states)
             (λ number. (number < length self.now.states) × IsAlike done.now left (at self.now.states number)) }
     {
-        let key = hash(self.start, done, changes, answers);
-        let mut last = self.places.get(&key).copied();
-        while let Some(number) = last {
-            if self.is_alike(number, done, changes, answers) {
-                return Some(number);
-            }
-            last = self.entries[number].before;
+        match self.place(done, changes, answers) {
+            Place::Found(number) => Some(number),
+            Place::Free(_) => None,
         }
-        None
     }
 
     /// Adds `more` to the number of orders that lead to the state `number`.
@@ -161,12 +194,31 @@ impl<'a> Layer<'a> {
         ensures err { OnErr result (self.new ≡ self.old) }
     {
         let key = hash(self.start, &state.done, &state.changes, &state.answers);
-        let before = self.places.get(&key).copied();
+        self.push_by(key, state)
+    }
+
+    /// Adds a state that is not in the set, whose hash is `key`.
+    ///
+    /// # Errors
+    ///
+    /// Out of memory. The set is then unchanged.
+    pub(crate) fn push_by(&mut self, key: u64, state: State) -> Result<(), NoMemory>
+        requires fit { orders_to self.old.states + state.orders < 2 ^ 64 }
+        requires changes { AreChanges self.old.opening state.changes.items }
+        requires key { IsKey self.old (reached_of self.old.opening state) key }
+        ensures ok { OnOk result (self.new.states ≡ self.old.states ++ reached_of self.old.opening state ∷ []) }
+        ensures opening { self.new.opening ≡ self.old.opening }
+        ensures err { OnErr result (self.new ≡ self.old) }
+    {
         let number = self.entries.len();
         let orders = state.orders;
-        self.entries.push(Entry { state, before })?;
+        self.entries.push(Entry {
+            state,
+            before: None,
+        })?;
         match self.places.insert(key, number) {
-            Ok(_) => {
+            Ok(before) => {
+                self.entries[number].before = before;
                 self.total += orders;
                 Ok(())
             }

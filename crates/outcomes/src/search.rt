@@ -18,7 +18,7 @@ ghost use Rattle.meaning.specs.Working.Undo.{undone};
 ghost use Rattle.outcomes.specs.Working.Reducing.{FindsIfAny};
 
 use crate::changes::{Writes, cells_of, make_changes};
-use crate::layer::Layer;
+use crate::layer::{Layer, Place};
 use crate::outcome::{Asked, FinalState, Found};
 use crate::state::{Change, State};
 use crate::trail::Trail;
@@ -147,17 +147,18 @@ impl Work<'_> {
         let After { changes, answers } = after;
         let mut done = from.done.clone()?;
         done[thread] += 1;
-        match self.next.find(&done, &changes, &answers) {
-            Some(number) => self.next.add_orders(number, from.orders),
-            None => {
+        match self.next.place(&done, &changes, &answers) {
+            Place::Found(number) => self.next.add_orders(number, from.orders),
+            Place::Free(key) => {
                 let first = self.trail.extend(from.first, thread)?;
-                self.next.push(State {
+                let state = State {
                     done,
                     changes,
                     answers,
                     orders: from.orders,
                     first,
-                })?;
+                };
+                self.next.push_by(key, state)?;
             }
         }
         Ok(())

@@ -69,7 +69,8 @@ fn push_others(out: &mut String, lines: &[&str]) -> Result<(), AllocError>
 
 /// The lines of a text, without their line feeds.
 fn split<'t>(alloc: Global, text: &'t str) -> Result<Vec<&'t str>, AllocError>
-    ensures { IfOk result (λ lines. map (λ line. line.now) lines.items ≡ slice_split (λ byte. byte == 10) text.entry.now) }
+    ensures { IfOk result
+        (λ lines. map (λ line. line.now) lines.items ≡ slice_split (λ byte. byte == 10) text.entry.now) }
 {
     text.split('\n').collect(alloc)
 }

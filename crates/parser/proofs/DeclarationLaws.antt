@@ -13,12 +13,13 @@ use Rattle.syntax.specs.Grammar.{tok, name_tok, IsOptional, left_out, AreMany, n
 use Rattle.syntax.specs.Grammar.{none_listed, IsName, is_name, IsType, is_int_type, IsConst, is_int_const}
 use Rattle.syntax.specs.Grammar.{are_no_stmts, is_braced, is_block, IsIndex, is_index, IsProtection, is_variable}
 use Rattle.syntax.specs.Grammar.{is_array, is_final, is_field, IsMember, is_lock_member, is_final_member}
-use Rattle.syntax.specs.Grammar.{is_field_member, IsStruct, is_struct, IsPool, is_pool, IsInit, is_init, IsSection}
-use Rattle.syntax.specs.Grammar.{is_section, IsCall, is_call, IsItem, is_call_item, is_repeat, IsItems, are_no_items}
+use Rattle.syntax.specs.Grammar.{is_field_member, IsStruct, is_struct, IsPool, is_pool, IsInit, is_init, AreTakenWhole}
+use Rattle.syntax.specs.Grammar.{none_taken, IsSection, is_section, IsCall, is_call, IsItem, is_call_item, is_repeat, IsItems, are_no_items}
 use Rattle.syntax.specs.Grammar.{are_items, IsThread, is_thread, IsDecl, is_lock, is_struct_decl, is_global}
 use Rattle.syntax.specs.Grammar.{is_array_decl, is_pool_decl, is_init_decl, is_atomic, is_helper, is_thread_decl}
 use Rattle.parser.specs.Working.Reading.{Reader, next_until, choose}
-use Rattle.parser.specs.Working.Declarations.{array_at, variable_at, global_at, section_at, consts_in, call_at}
+use Rattle.parser.specs.Working.Declarations.{array_at, variable_at, global_at, section_at, helper_at, consts_in}
+use Rattle.parser.specs.Working.Declarations.{call_at}
 use Rattle.parser.specs.Working.Declarations.{call_item, repeat_with, item_with, item_at, items_with, items_in}
 use Rattle.parser.specs.Working.Declarations.{thread_at, lock_at, field_at, final_at, lock_member_at, member_at}
 use Rattle.parser.specs.Working.Declarations.{members_with, members_in, struct_at, pool_at, init_at, decl_from}
@@ -32,7 +33,7 @@ use Rattle.parser.specs.Theory.Joined.{listed_part, choose_law, weaken_law, eith
 use Rattle.parser.specs.Theory.StatementLaws.{IsBracedPair, block_part}
 use Rattle.parser.specs.Theory.PartLaws.{IsParams, is_params, one_is, no_name, zero_const, zero_tok, no_count}
 use Rattle.parser.specs.Theory.PartLaws.{type_part, after_part, index_part, const_part, maybe_protection_part}
-use Rattle.parser.specs.Theory.PartLaws.{params_part}
+use Rattle.parser.specs.Theory.PartLaws.{params_part, classes_part}
 
 -- ---- each production, by its parts
 
@@ -95,8 +96,20 @@ init_decl_is : {start : Span} {i : tree.Init} {ts rest : List Tok} → IsInitFro
 init_decl_is {i = i} {ts = ts} {rest = rest} (init_there e h) = subst (λ (s : Span). IsDecl (init i) (tok (word keyword.Init) s ∷ ts) rest) e (is_init_decl h)
 
 section_is : {y : Section} {ts rest : List Tok} →
-    Both IsName (λ x. Both IsParams (λ ps. Both (IsOptional (IsAfter Colon IsType)) (λ r. Both IsBracedPair (λ b. Done (record { name = x; params = ps; result = r; body = record { stmts = b.0; close = b.1 } }))))) y ts rest → IsSection y ts rest
-section_is (both is_name (both (is_params ps) (both r (both b done)))) = is_section ps r (is_block b)
+    Both IsName (λ x. Both IsParams (λ ps. Both (IsOptional (IsAfter Colon IsType)) (λ r. Both AreTakenWhole (λ cs. Both IsBracedPair (λ b. Done (record { name = x; params = ps; result = r; listed = cs; body = record { stmts = b.0; close = b.1 } })))))) y ts rest → IsSection y ts rest
+section_is (both is_name (both (is_params ps) (both r (both cs (both b done))))) = is_section ps r cs (is_block b)
+
+-- a helper, after its first word
+pub data IsHelper (s : Section) (ts rest : List Tok) : Type 0 where
+  without_classes : s.listed ≡ [] → IsSection s ts rest → IsHelper s ts rest
+
+helper_is : {y : Section} {ts rest : List Tok} →
+    Both IsName (λ x. Both IsParams (λ ps. Both (IsOptional (IsAfter Colon IsType)) (λ r. Both IsBracedPair (λ b. Done (record { name = x; params = ps; result = r; listed = []; body = record { stmts = b.0; close = b.1 } }))))) y ts rest → IsHelper y ts rest
+helper_is (both is_name (both (is_params ps) (both r (both b done)))) = without_classes refl (is_section ps r none_taken (is_block b))
+
+helper_decl_is : {s : Section} {start : Span} {ts rest : List Tok} → IsHelper s ts rest →
+    IsDecl (helper s) (tok (word keyword.Call) start ∷ ts) rest
+helper_decl_is (without_classes none h) = is_helper none h
 
 call_is : {y : tree.Call} {ts rest : List Tok} →
     Both IsName (λ x. Both (IsTok (mark OpenParen)) (λ b. Both (AreListed IsConst) (λ cs. Both (IsTok (mark CloseParen)) (λ c. Both (IsTok (mark Semicolon)) (λ s. Done (record { section = x; arguments = cs })))))) y ts rest → IsCall y ts rest
@@ -260,14 +273,28 @@ module _ (limit : ℕ) where
     unfolding section_at
     section_law =
         production limit IsSection
-        (then_part limit (name_part limit d) (then_part limit (params_part limit room d sum) (then_part limit (maybe_part limit (mark Colon) d (after_part limit Colon d (λ o. o) (type_part limit d))) (then_part limit (block_part limit room d sum)
-        (ends_with limit (λ x. record { name = x.0.0.0.1; params = x.0.0.1; result = x.0.1; body = record { stmts = x.1.0; close = x.1.1 } }))))))
+        (then_part limit (name_part limit d) (then_part limit (params_part limit room d sum) (then_part limit (maybe_part limit (mark Colon) d (after_part limit Colon d (λ o. o) (type_part limit d))) (then_part limit (classes_part limit room d sum) (then_part limit (block_part limit room d sum)
+        (ends_with limit (λ x. record { name = x.0.0.0.0.1; params = x.0.0.0.1; result = x.0.0.1; listed = x.0.1; body = record { stmts = x.1.0; close = x.1.1 } })))))))
         (λ y ts rest r. section_is r)
 
     section_part : {P : Type 0} → Part limit P IsSection (section_at room) 1 d d
     section_part = record {
       law = λ p. section_law;
-      can = λ rest. (record { name = no_name; params = []; result = None; body = record { stmts = no_stmts; close = nowhere } }, name_tok no_name ∷ tok (mark OpenParen) nowhere ∷ tok (mark CloseParen) nowhere ∷ tok (mark OpenBrace) nowhere ∷ tok (mark CloseBrace) nowhere ∷ rest, is_section none_listed left_out (is_block (is_braced are_no_stmts)));
+      can = λ rest. (record { name = no_name; params = []; result = None; listed = []; body = record { stmts = no_stmts; close = nowhere } }, name_tok no_name ∷ tok (mark OpenParen) nowhere ∷ tok (mark CloseParen) nowhere ∷ tok (mark OpenBrace) nowhere ∷ tok (mark CloseBrace) nowhere ∷ rest, is_section none_listed left_out none_taken (is_block (is_braced are_no_stmts)));
+    }
+
+    helper_law : Law limit IsHelper (helper_at room) 1 d d
+    unfolding helper_at
+    helper_law =
+        production limit IsHelper
+        (then_part limit (name_part limit d) (then_part limit (params_part limit room d sum) (then_part limit (maybe_part limit (mark Colon) d (after_part limit Colon d (λ o. o) (type_part limit d))) (then_part limit (block_part limit room d sum)
+        (ends_with limit (λ x. record { name = x.0.0.0.1; params = x.0.0.1; result = x.0.1; listed = []; body = record { stmts = x.1.0; close = x.1.1 } }))))))
+        (λ y ts rest r. helper_is r)
+
+    helper_part : {P : Type 0} → Part limit P IsHelper (helper_at room) 1 d d
+    helper_part = record {
+      law = λ p. helper_law;
+      can = λ rest. (record { name = no_name; params = []; result = None; listed = []; body = record { stmts = no_stmts; close = nowhere } }, name_tok no_name ∷ tok (mark OpenParen) nowhere ∷ tok (mark CloseParen) nowhere ∷ tok (mark OpenBrace) nowhere ∷ tok (mark CloseBrace) nowhere ∷ rest, without_classes refl (is_section none_listed left_out none_taken (is_block (is_braced are_no_stmts))));
     }
 
     call_law : Law limit IsCall (call_at room) 1 d d
@@ -339,7 +366,7 @@ module _ (limit : ℕ) where
     decl_head (word keyword.Pool) at = takes 1 (λ e. cc) (λ o. absurd o) (production limit (at_rest IsDecl (tok (word keyword.Pool) at)) (then_part limit (pool_part room d sum) (ends_with limit (λ x. pool x.1))) (one_is _ (λ x ts rest h. is_pool_decl h)))
     decl_head (word keyword.Init) at = takes 1 (λ e. cc) (λ o. absurd o) (production limit (at_rest IsDecl (tok (word keyword.Init) at)) (then_part limit (init_part room d sum at) (ends_with limit (λ x. init x.1))) (one_is _ (λ x ts rest h. init_decl_is h)))
     decl_head (word keyword.Atomic) at = takes 1 (λ e. cc) (λ o. absurd o) (production limit (at_rest IsDecl (tok (word keyword.Atomic) at)) (then_part limit (section_part room d sum) (ends_with limit (λ x. atomic x.1))) (one_is _ (λ x ts rest h. is_atomic h)))
-    decl_head (word keyword.Call) at = takes 1 (λ e. cc) (λ o. absurd o) (production limit (at_rest IsDecl (tok (word keyword.Call) at)) (then_part limit (section_part room d sum) (ends_with limit (λ x. helper x.1))) (one_is _ (λ x ts rest h. is_helper h)))
+    decl_head (word keyword.Call) at = takes 1 (λ e. cc) (λ o. absurd o) (production limit (at_rest IsDecl (tok (word keyword.Call) at)) (then_part limit (helper_part room d sum) (ends_with limit (λ x. helper x.1))) (one_is _ (λ x ts rest h. helper_decl_is h)))
     decl_head (word keyword.Thread) at = takes 1 (λ e. cc) (λ o. absurd o) (production limit (at_rest IsDecl (tok (word keyword.Thread) at)) (then_part limit thread_part (ends_with limit (λ x. thread x.1))) (one_is _ (λ x ts rest h. is_thread_decl h)))
     decl_head _ at = refuses (λ ts. refl)
 

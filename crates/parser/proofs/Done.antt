@@ -1,18 +1,18 @@
 -- Parts of declarations that were read one after another, joined.
-use Rattle.std.proofs.Common.{◌≡◌, ℕ, zero, suc, ◌-◌, ◌<◌, List, refl, arith, sub-one, Option, Ok}
+use Rattle.std.proofs.Common.{◌≡◌, ℕ, zero, suc, ◌-◌, ◌<◌, List, [], refl, arith, sub-one, Option, Ok}
 use Rattle.source.specs.declared.span.Span.{Span}
 use Rattle.source.specs.Tokens.{Tok, mark}
 use Rattle.parser.specs.Working.Reading.{listed_at, sign_at, open_at, word_at, name_at, maybe_at, after_at, int_at}
-use Rattle.parser.specs.Working.Parts.{const_at, type_at, index_at, maybe_protection, params_at}
+use Rattle.parser.specs.Working.Parts.{const_at, type_at, index_at, maybe_protection, params_at, classes_at}
 use Rattle.parser.specs.Working.Declarations.{consts_in, items_with, item_at, items_in, members_with, member_at}
-use Rattle.parser.specs.Working.Declarations.{members_in, pool_at, init_at, section_at, array_at, variable_at}
+use Rattle.parser.specs.Working.Declarations.{members_in, pool_at, init_at, section_at, helper_at, array_at, variable_at}
 use Rattle.parser.specs.Working.Declarations.{field_at, final_at, call_at, repeat_with}
 use Rattle.source.specs.declared.token.Keyword.TheVariants as keyword
 use Rattle.source.specs.declared.token.Number.{Number}
 use Rattle.source.specs.declared.token.Sign.TheVariants.{Colon, Dot, Equals, Semicolon, OpenParen, CloseParen}
 use Rattle.source.specs.declared.token.Sign.TheVariants.{OpenBrace, CloseBrace}
 use Rattle.syntax.specs.Trees.{Ident, ValueType, Const, Protection, Param, Stmts, pool, init, array, global}
-use Rattle.syntax.specs.Trees.{field_member, final_member, Items}
+use Rattle.syntax.specs.Trees.{field_member, final_member, ClassName, Items}
 use Rattle.parser.specs.Working.Statements.{braced_at}
 use Rattle.parser.specs.Working.Rests.{pool_decl, init_decl}
 use Rattle.syntax.specs.Trees as tree
@@ -49,12 +49,19 @@ module _ (ts : List Tok) where
     unfolding init_at
     init_done room start h2 h3 h4 h5 h6 h7 = rw (first, h2, h3, h4, h5, h6, h7) refl
 
-    pub section_done : {t2 t3 t4 : List Tok} {ps : List Param} {r : Option ValueType} {b : Stmts × Span} (room : ℕ) →
+    pub section_done : {t2 t3 t4 t5 : List Tok} {ps : List Param} {r : Option ValueType} {cs : List ClassName} {b : Stmts × Span} (room : ℕ) →
+        params_at room t1 ≡ Ok (ps, t2) → maybe_at (mark Colon) (after_at Colon type_at) t2 ≡ Ok (r, t3) →
+        classes_at room t3 ≡ Ok (cs, t4) → braced_at room t4 ≡ Ok (b, t5) →
+        section_at room ts ≡ Ok (record { name = x; params = ps; result = r; listed = cs; body = record { stmts = b.0; close = b.1 } }, t5)
+    unfolding section_at
+    section_done room h2 h3 h4 h5 = rw (first, h2, h3, h4, h5) refl
+
+    pub helper_done : {t2 t3 t4 : List Tok} {ps : List Param} {r : Option ValueType} {b : Stmts × Span} (room : ℕ) →
         params_at room t1 ≡ Ok (ps, t2) → maybe_at (mark Colon) (after_at Colon type_at) t2 ≡ Ok (r, t3) →
         braced_at room t3 ≡ Ok (b, t4) →
-        section_at room ts ≡ Ok (record { name = x; params = ps; result = r; body = record { stmts = b.0; close = b.1 } }, t4)
-    unfolding section_at
-    section_done room h2 h3 h4 = rw (first, h2, h3, h4) refl
+        helper_at room ts ≡ Ok (record { name = x; params = ps; result = r; listed = []; body = record { stmts = b.0; close = b.1 } }, t4)
+    unfolding helper_at
+    helper_done room h2 h3 h4 = rw (first, h2, h3, h4) refl
 
     pub call_done : {t2 t3 t4 t5 : List Tok} {cs : List Const} {s1 s3 s4 : Span} (room : ℕ) →
         open_at OpenParen room t1 ≡ Ok (s1, t2) → 0 < room → listed_at (const_at (room - 1)) t2 ≡ Ok (cs, t3) →

@@ -8,20 +8,21 @@ use Rattle.source.specs.Tokens.{word, mark, end, Tok}
 use Rattle.source.specs.declared.token.Number.{Number}
 use Rattle.syntax.specs.Trees as tree
 use Rattle.syntax.specs.Trees.{Ident, ValueType, Const, Stmts, Member, lock_member, final_member, field_member}
-use Rattle.syntax.specs.Trees.{Section, Items, no_items, Decl, lock, struct, global, array, pool, init, atomic}
+use Rattle.syntax.specs.Trees.{ClassName, Section, Items, no_items, Decl, lock, struct, global, array, pool, init, atomic}
 use Rattle.syntax.specs.Trees.{helper, thread}
 use Rattle.syntax.specs.Grammar.{tok, name_tok, int_tok, IsOptional, left_out, given, AreMany, no_more, one_more}
 use Rattle.syntax.specs.Grammar.{IsAfter, after, AreListed, IsName, is_name, IsType, is_int_type, is_ref_type}
 use Rattle.syntax.specs.Grammar.{IsConst, is_braced, is_block, IsIndex, is_index, IsProtection, is_protection}
 use Rattle.syntax.specs.Grammar.{is_variable, is_array, is_final, is_field, IsMember, is_lock_member, is_final_member}
-use Rattle.syntax.specs.Grammar.{is_field_member, IsStruct, is_struct, IsPool, is_pool, IsInit, is_init, IsSection}
-use Rattle.syntax.specs.Grammar.{is_section, IsCall, is_call, IsItem, is_call_item, is_repeat, IsItems, are_no_items}
+use Rattle.syntax.specs.Grammar.{is_field_member, IsStruct, is_struct, IsPool, is_pool, IsInit, is_init, AreTakenWhole}
+use Rattle.syntax.specs.Grammar.{none_taken, taken, IsSection, is_section, IsCall, is_call, IsItem, is_call_item, is_repeat, IsItems, are_no_items}
 use Rattle.syntax.specs.Grammar.{are_items, IsThread, is_thread, IsDecl, is_lock, is_struct_decl, is_global}
 use Rattle.syntax.specs.Grammar.{is_array_decl, is_pool_decl, is_init_decl, is_atomic, is_helper, is_thread_decl}
 use Rattle.syntax.specs.Grammar.{Spells, spells}
 use Rattle.parser.specs.Working.Reading.{◌>>=◌, sign_at, open_at, word_at, name_at, int_at, choose}
 use Rattle.parser.specs.Working.Parts.{type_at, const_at}
-use Rattle.parser.specs.Working.Declarations.{array_at, variable_at, global_at, section_at, consts_in, call_at}
+use Rattle.parser.specs.Working.Declarations.{array_at, variable_at, global_at, section_at, helper_at, consts_in}
+use Rattle.parser.specs.Working.Declarations.{call_at}
 use Rattle.parser.specs.Working.Declarations.{call_item, repeat_with, item_with, item_at, items_with, items_in}
 use Rattle.parser.specs.Working.Declarations.{thread_at, lock_at, field_at, final_at, lock_member_at, member_at}
 use Rattle.parser.specs.Working.Declarations.{members_with, members_in, struct_at, pool_at, init_at, decl_at}
@@ -29,7 +30,7 @@ use Rattle.parser.specs.Working.Declarations.{decls_at, end_from, program_at}
 use Rattle.parser.specs.Theory.Law.{IsTok, is_tok}
 use Rattle.parser.specs.Theory.Joined.{Done, done, Both, both}
 use Rattle.parser.specs.Theory.PartLaws.{IsParams, is_params}
-use Rattle.parser.proofs.DeclarationLaws.{IsLock, is_lock_name}
+use Rattle.parser.proofs.DeclarationLaws.{IsHelper, without_classes, IsLock, is_lock_name}
 use Rattle.parser.specs.Theory.StatementLaws.{IsBracedPair}
 use Rattle.parser.specs.Theory.Shorter.{next_const_shortens}
 use Rattle.parser.proofs.Turns.{next_item_shortens, next_decl_shortens, next_member_shortens}
@@ -38,7 +39,7 @@ use Rattle.parser.specs.Theory.Finding.{and_found, production_found, sign_found,
 use Rattle.parser.specs.Theory.Finding.{IsNext, maybe_found, Closes, listed_found, until_none, until_found}
 use Rattle.parser.specs.Theory.Finding.{choose_left, choose_right}
 use Rattle.parser.specs.Theory.PartsFound.{type_found, index_found, const_found, close_closes, after_found}
-use Rattle.parser.specs.Theory.PartsFound.{maybe_protection_found, const_begins, params_found}
+use Rattle.parser.specs.Theory.PartsFound.{maybe_protection_found, const_begins, params_found, classes_found}
 use Rattle.parser.specs.Theory.StatementsFound.{block_found}
 
 -- a closing brace comes next
@@ -192,8 +193,34 @@ init_back : {i : tree.Init} {ts rest : List Tok} → IsInit i ts rest → IsInit
 init_back (is_init n c) = both is_name (both n (both is_tok (both is_name (both is_tok (both c (both is_tok done))))))
 
 section_back : {y : Section} {ts rest : List Tok} → IsSection y ts rest →
-    Both IsName (λ x. Both IsParams (λ ps. Both (IsOptional (IsAfter Colon IsType)) (λ r. Both IsBracedPair (λ b. Done (record { name = x; params = ps; result = r; body = record { stmts = b.0; close = b.1 } }))))) y ts rest
-section_back (is_section ps r (is_block b)) = both is_name (both (is_params ps) (both r (both b done)))
+    Both IsName (λ x. Both IsParams (λ ps. Both (IsOptional (IsAfter Colon IsType)) (λ r. Both AreTakenWhole (λ cs. Both IsBracedPair (λ b. Done (record { name = x; params = ps; result = r; listed = cs; body = record { stmts = b.0; close = b.1 } })))))) y ts rest
+section_back (is_section ps r cs (is_block b)) = both is_name (both (is_params ps) (both r (both cs (both b done))))
+
+abbrev IsHelperParts : Section → List Tok → List Tok → Type 0
+IsHelperParts = Both IsName (λ x. Both IsParams (λ ps. Both (IsOptional (IsAfter Colon IsType)) (λ r. Both IsBracedPair (λ b. Done (record { name = x; params = ps; result = r; listed = []; body = record { stmts = b.0; close = b.1 } })))))
+
+-- the classes of a helper are none
+no_classes : {cs : List ClassName} {ts rest : List Tok} → AreTakenWhole cs ts rest → cs ≡ [] → ts ≡ rest
+no_classes none_taken e = refl
+no_classes (taken c cs) e = absurd cc
+
+helper_with : (x : Ident) (ps : List tree.Param) (r : Option ValueType) (cs : List ClassName) (b : tree.Block) (ts rest : List Tok) → cs ≡ [] → IsHelperParts (record { name = x; params = ps; result = r; listed = []; body = b }) ts rest →
+    IsHelperParts (record { name = x; params = ps; result = r; listed = cs; body = b }) ts rest
+helper_with x ps r cs b ts rest e h = subst (λ (l : List ClassName). IsHelperParts (record { name = x; params = ps; result = r; listed = l; body = b }) ts rest) (sym e) h
+
+helper_back : {y : Section} {ts rest : List Tok} → IsHelper y ts rest → IsHelperParts y ts rest
+helper_back (without_classes none (is_section {s = s} {ts2 = ts2} {ts3 = ts3} {rest = rest} ps r cs (is_block b))) =
+    let here : IsOptional (IsAfter Colon IsType) s.result ts2 _ = subst (λ (ts : List Tok). IsOptional (IsAfter Colon IsType) s.result ts2 ts) (no_classes cs none) r in
+    helper_with s.name s.params s.result s.listed s.body _ rest none (both is_name (both (is_params ps) (both here (both b done))))
+
+classes_no_result : {A : Type 0} {R : List ClassName → Stmts × Span → A → List Tok → List Tok → Type 0} {y : A} {ts rest : List Tok} →
+    Both AreTakenWhole (λ cs. Both IsBracedPair (R cs)) y ts rest → NotNext (mark Colon) ts
+classes_no_result (both none_taken (both (is_braced h) r)) = refl
+classes_no_result (both (taken n more) r) = refl
+
+block_no_lock : {A : Type 0} {R : Stmts × Span → A → List Tok → List Tok → Type 0} {y : A} {ts rest : List Tok} →
+    Both IsBracedPair R y ts rest → NotNext (word keyword.Lock) ts
+block_no_lock (both (is_braced h) r) = refl
 
 block_no_result : {A : Type 0} {R : Stmts × Span → A → List Tok → List Tok → Type 0} {y : A} {ts rest : List Tok} →
     Both IsBracedPair R y ts rest → NotNext (mark Colon) ts
@@ -203,9 +230,17 @@ section_found : (room : ℕ) → FindsPart Anything IsSection (section_at room)
 unfolding section_at
 section_found room =
     production_found IsSection
-    (and_found name_found (and_found (params_found room) (then_found {F = NotNext (mark Colon)} (maybe_found (mark Colon) (after_found Colon type_found) result_begins) (λ x a y ts rest r f. block_no_result r) (and_found (block_found room)
-    (ends_found (λ x. record { name = x.0.0.0.1; params = x.0.0.1; result = x.0.1; body = record { stmts = x.1.0; close = x.1.1 } }))))))
+    (and_found name_found (and_found (params_found room) (then_found {F = NotNext (mark Colon)} (maybe_found (mark Colon) (after_found Colon type_found) result_begins) (λ x a y ts rest r f. classes_no_result r) (then_found {F = NotNext (word keyword.Lock)} (classes_found room) (λ x a y ts rest r f. block_no_lock r) (and_found (block_found room)
+    (ends_found (λ x. record { name = x.0.0.0.0.1; params = x.0.0.0.1; result = x.0.0.1; listed = x.0.1; body = record { stmts = x.1.0; close = x.1.1 } })))))))
     (λ y ts rest h. section_back h)
+
+helper_found : (room : ℕ) → FindsPart Anything IsHelper (helper_at room)
+unfolding helper_at
+helper_found room =
+    production_found IsHelper
+    (and_found name_found (and_found (params_found room) (then_found {F = NotNext (mark Colon)} (maybe_found (mark Colon) (after_found Colon type_found) result_begins) (λ x a y ts rest r f. block_no_result r) (and_found (block_found room)
+    (ends_found (λ x. record { name = x.0.0.0.1; params = x.0.0.1; result = x.0.1; listed = []; body = record { stmts = x.1.0; close = x.1.1 } }))))))
+    (λ y ts rest h. helper_back h)
 
 call_back : {y : tree.Call} {ts rest : List Tok} → IsCall y ts rest →
     Both IsName (λ x. Both (IsTok (mark OpenParen)) (λ b. Both (AreListed IsConst) (λ cs. Both (IsTok (mark CloseParen)) (λ c. Both (IsTok (mark Semicolon)) (λ s. Done (record { section = x; arguments = cs })))))) y ts rest
@@ -304,7 +339,7 @@ decl_found room _ ts rest (is_array_decl {a = a} {ts = us} (is_array {ts2 = mid}
 decl_found room _ ts rest (is_pool_decl {p = p} {ts = us} h) follow = finds_then (pool_at room us) (λ p. Ok (pool p.0, p.1)) (p, rest) (pool p, rest) (pool_found room p us rest h tt) (found refl)
 decl_found room _ ts rest (is_init_decl {i = i} {ts = us} h) follow = finds_then (init_at room i.start us) (λ i. Ok (init i.0, i.1)) (i, rest) (init i, rest) (init_found room i.start i us rest (init_back h) tt) (found refl)
 decl_found room _ ts rest (is_atomic {s = s} {ts = us} h) follow = finds_then (section_at room us) (λ s. Ok (atomic s.0, s.1)) (s, rest) (atomic s, rest) (section_found room s us rest h tt) (found refl)
-decl_found room _ ts rest (is_helper {s = s} {ts = us} h) follow = finds_then (section_at room us) (λ s. Ok (helper s.0, s.1)) (s, rest) (helper s, rest) (section_found room s us rest h tt) (found refl)
+decl_found room _ ts rest (is_helper {s = s} {ts = us} none h) follow = finds_then (helper_at room us) (λ s. Ok (helper s.0, s.1)) (s, rest) (helper s, rest) (helper_found room s us rest (without_classes none h) tt) (found refl)
 decl_found room _ ts rest (is_thread_decl {t = t} {ts = us} h) follow = finds_then (thread_at room us) (λ t. Ok (thread t.0, t.1)) (t, rest) (thread t, rest) (thread_found room t us rest h tt) (found refl)
 
 decl_begins : {d : Decl} {ts rest : List Tok} → IsDecl d ts rest → NotNext end ts
@@ -315,7 +350,7 @@ decl_begins (is_array_decl h) = refl
 decl_begins (is_pool_decl h) = refl
 decl_begins (is_init_decl h) = refl
 decl_begins (is_atomic h) = refl
-decl_begins (is_helper h) = refl
+decl_begins (is_helper none h) = refl
 decl_begins (is_thread_decl h) = refl
 
 decls_found : (room : ℕ) → FindsPart (IsNext end) (AreMany IsDecl) (decls_at room)

@@ -4,12 +4,14 @@ ghost use Rattle.std.specs.Prelude.{◌≡◌, map};
 ghost use Rattle.source.specs.Tokens.{seen};
 ghost use Rattle.syntax.specs.Views.{ident, type_of, section_of, decl_of, tree_of};
 ghost use Rattle.parser.specs.Working.Reading.{Gives};
-ghost use Rattle.parser.specs.Working.Declarations.{array_at, variable_at, global_at, section_at, decl_at, decls_at, program_at};
+ghost use Rattle.parser.specs.Working.Declarations.{array_at, variable_at, global_at, section_at, helper_at, decl_at, decls_at, program_at};
 ghost use Rattle.parser.specs.Working.Rests.{pool_decl, init_decl};
 
 use crate::growth::push;
 use crate::member::{lock, structure};
-use crate::parts::{constant, index, opening_value, params, protection, result_type, value_type};
+use crate::parts::{
+    classes, constant, index, opening_value, params, protection, result_type, value_type,
+};
 use crate::stmt::block;
 use crate::stop::Stop;
 use crate::take::{ended_by, is_end_next, is_sign_next, take_name};
@@ -28,7 +30,8 @@ fn array(
     tokens: &[Token],
     room: u32,
 ) -> Result<(Decl, &[Token]), Stop>
-    ensures { Gives (λ x. (decl_of x.0, seen x.1.now)) result (array_at room (type_of value_type) (ident name) (seen tokens.now)) }
+    ensures { Gives (λ x. (decl_of x.0, seen x.1.now)) result
+        (array_at room (type_of value_type) (ident name) (seen tokens.now)) }
 {
     let (length, rest) = index(tokens, room)?;
     let (protection, rest) = ended_by(protection(alloc, rest, room), Sign::Semicolon)?;
@@ -49,7 +52,8 @@ fn variable(
     tokens: &[Token],
     room: u32,
 ) -> Result<(Decl, &[Token]), Stop>
-    ensures { Gives (λ x. (decl_of x.0, seen x.1.now)) result (variable_at room (type_of value_type) (ident name) (seen tokens.now)) }
+    ensures { Gives (λ x. (decl_of x.0, seen x.1.now)) result
+        (variable_at room (type_of value_type) (ident name) (seen tokens.now)) }
 {
     let (protection, rest) = protection(alloc, tokens, room)?;
     let (value, rest) = ended_by(opening_value(alloc, rest, room), Sign::Semicolon)?;
@@ -108,21 +112,41 @@ fn init(alloc: Global, start: Span, tokens: &[Token], room: u32) -> Result<(Decl
     Ok((Decl::Init(init), rest))
 }
 
-/// Parses a section or a helper, after its first word.
+/// Parses a section, after its first word.
 fn section(alloc: Global, tokens: &[Token], room: u32) -> Result<(Section, &[Token]), Stop>
     ensures { Gives (λ x. (section_of x.0, seen x.1.now)) result (section_at room (seen tokens.now)) }
 {
     let (name, rest) = take_name(tokens)?;
     let (params, rest) = params(alloc, rest, room)?;
     let (result, rest) = result_type(rest)?;
+    let (listed, rest) = classes(alloc, rest, room)?;
     let (body, rest) = block(alloc, rest, room)?;
     let section = Section {
         name,
         params,
         result,
+        listed,
         body,
     };
     Ok((section, rest))
+}
+
+/// Parses a helper, after its first word.
+fn helper(alloc: Global, tokens: &[Token], room: u32) -> Result<(Section, &[Token]), Stop>
+    ensures { Gives (λ x. (section_of x.0, seen x.1.now)) result (helper_at room (seen tokens.now)) }
+{
+    let (name, rest) = take_name(tokens)?;
+    let (params, rest) = params(alloc, rest, room)?;
+    let (result, rest) = result_type(rest)?;
+    let (body, rest) = block(alloc, rest, room)?;
+    let helper = Section {
+        name,
+        params,
+        result,
+        listed: Vec::new(alloc),
+        body,
+    };
+    Ok((helper, rest))
 }
 
 #[tactic(auto, unfolding(crate::specs::Working::Declarations::decl_at))]
@@ -149,7 +173,7 @@ fn decl(alloc: Global, tokens: &[Token], room: u32) -> Result<(Decl, &[Token]), 
             Ok((Decl::Atomic(section), rest))
         }
         Token::Word(_, Keyword::Call) => {
-            let (helper, rest) = section(alloc, rest, room)?;
+            let (helper, rest) = helper(alloc, rest, room)?;
             Ok((Decl::Helper(helper), rest))
         }
         Token::Word(_, Keyword::Thread) => {

@@ -87,7 +87,8 @@ pub fn place(
     tokens: &[Token],
     room: u32,
 ) -> Result<(Place, &[Token]), Stop>
-    ensures { Gives (λ x. (place_of x.0, seen x.1.now)) result (place_at room (inside_at room) (ident name) (seen tokens.now)) }
+    ensures { Gives (λ x. (place_of x.0, seen x.1.now)) result
+        (place_at room (inside_at room) (ident name) (seen tokens.now)) }
 {
     if is_sign_next(tokens, Sign::OpenBracket) {
         return element(alloc, name, tokens, room);
@@ -111,7 +112,8 @@ fn element(
     tokens: &[Token],
     room: u32,
 ) -> Result<(Place, &[Token]), Stop>
-    ensures { Gives (λ x. (place_of x.0, seen x.1.now)) result (element_at room (inside_at room) (ident name) (seen tokens.now)) }
+    ensures { Gives (λ x. (place_of x.0, seen x.1.now)) result
+        (element_at room (inside_at room) (ident name) (seen tokens.now)) }
 {
     let (_, rest) = take_open(tokens, Sign::OpenBracket, room)?;
     let (index, rest) = closed(alloc, Sign::CloseBracket, rest, room - 1)?;
@@ -212,7 +214,8 @@ fn joined(alloc: Global, operands: Joined, rest: &[Token]) -> Result<(Expr, &[To
 #[cycle(expr)]
 #[tactic(auto, unfolding(crate::specs::Working::Expressions::compared_with))]
 fn compared(alloc: Global, tokens: &[Token], room: u32) -> Result<(Expr, &[Token]), Stop>
-    ensures { Gives (λ x. (expr_of x.0, seen x.1.now)) result (compared_with (sum_with (prim_at room)) (seen tokens.now)) }
+    ensures { Gives (λ x. (expr_of x.0, seen x.1.now)) result
+        (compared_with (sum_with (prim_at room)) (seen tokens.now)) }
 {
     let (left, rest) = chain(alloc, Level::Sum, tokens, room)?;
     match comparison(rest) {
@@ -233,7 +236,8 @@ fn links(
     tokens: &[Token],
     room: u32,
 ) -> Result<(Vec<Link>, &[Token]), Stop>
-    ensures { Gives (λ x. (links_of x.0.items, seen x.1.now)) result (level_links level room (link_of first) (seen tokens.now)) }
+    ensures { Gives (λ x. (links_of x.0.items, seen x.1.now)) result
+        (level_links level room (link_of first) (seen tokens.now)) }
 {
     let mut links = Vec::new(alloc);
     push(&mut links, first)?;

@@ -71,7 +71,8 @@ fn member(alloc: Global, tokens: &[Token], room: u32) -> Result<(Member, &[Token
 }
 
 fn members(alloc: Global, tokens: &[Token], room: u32) -> Result<(Vec<Member>, &[Token]), Stop>
-    ensures { Gives (λ x. (map member_of x.0.items, seen x.1.now)) result (members_with (member_at room) (seen tokens.now)) }
+    ensures { Gives (λ x. (map member_of x.0.items, seen x.1.now)) result
+        (members_with (member_at room) (seen tokens.now)) }
 {
     let mut members = Vec::new(alloc);
     let mut rest = tokens;

@@ -1,11 +1,11 @@
-//! Types, constants, parameters, and lists of them.
+//! Types, constants, parameters, lock classes, and lists of them.
 
 ghost use Rattle.std.specs.Prelude.{◌≡◌, map};
 ghost use Rattle.source.specs.Tokens.{seen};
-ghost use Rattle.source.specs.declared.token.Sign.TheVariants.{Dot};
-ghost use Rattle.syntax.specs.Views.{ident, type_of, const_of, param_of, protection_of, option_of};
+ghost use Rattle.source.specs.declared.token.Sign.TheVariants.{Comma, Dot};
+ghost use Rattle.syntax.specs.Views.{ident, type_of, const_of, param_of, protection_of, option_of, class_name_of};
 ghost use Rattle.parser.specs.Working.Reading.{Gives, name_at, listed_at, after_each};
-ghost use Rattle.parser.specs.Working.Parts.{type_at, index_at, const_at, member_from, negative_from, param_at, params_at, protection_at, maybe_protection, maybe_value, maybe_result};
+ghost use Rattle.parser.specs.Working.Parts.{type_at, index_at, const_at, member_from, negative_from, param_at, params_at, protection_at, maybe_protection, maybe_value, maybe_result, class_at, class_list_at, whole_at, classes_at};
 
 use crate::growth::push;
 use crate::stop::Stop;
@@ -16,7 +16,7 @@ use crate::take::{
 use source::span::Span;
 use source::token::{Keyword, Number, Sign, Token};
 use std::alloc::Global;
-use syntax::tree::{Const, Name, Param, Protection, ValueType};
+use syntax::tree::{ClassName, Const, Name, Param, Protection, ValueType};
 
 /// Parses a type.
 #[tactic(auto, unfolding(crate::specs::Working::Parts::type_at))]
@@ -172,7 +172,8 @@ pub fn protection(
     tokens: &[Token],
     room: u32,
 ) -> Result<(Option<Protection>, &[Token]), Stop>
-    ensures { Gives (λ x. (option_of protection_of x.0, seen x.1.now)) result (maybe_protection room (seen tokens.now)) }
+    ensures { Gives (λ x. (option_of protection_of x.0, seen x.1.now)) result
+        (maybe_protection room (seen tokens.now)) }
 {
     if !is_word_next(tokens, Keyword::ProtectedBy) {
         return Ok((None, tokens));
@@ -205,4 +206,56 @@ pub fn result_type(tokens: &[Token]) -> Result<(Option<ValueType>, &[Token]), St
     };
     let (value_type, rest) = value_type(rest)?;
     Ok((Some(value_type), rest))
+}
+
+/// Parses a lock class.
+fn class(tokens: &[Token]) -> Result<(ClassName, &[Token]), Stop>
+    ensures { Gives (λ x. (class_name_of x.0, seen x.1.now)) result (class_at (seen tokens.now)) }
+{
+    let (structure, rest) = ended_by(take_name(tokens), Sign::Dot)?;
+    let (lock, rest) = take_name(rest)?;
+    Ok((ClassName { structure, lock }, rest))
+}
+
+/// Parses a lock class, and further ones after commas.
+fn class_list(alloc: Global, tokens: &[Token]) -> Result<(Vec<ClassName>, &[Token]), Stop>
+    ensures { Gives (λ x. (map class_name_of x.0.items, seen x.1.now)) result (class_list_at (seen tokens.now)) }
+{
+    let mut classes = Vec::new(alloc);
+    let (first, mut rest) = class(tokens)?;
+    push(&mut classes, first)?;
+    while let Some(after) = after_sign(rest, Sign::Comma) {
+        let (next, after) = class(after)?;
+        push(&mut classes, next)?;
+        rest = after;
+    }
+    Ok((classes, rest))
+}
+
+/// Parses `lock` and the classes in parentheses after it.
+fn some_classes(
+    alloc: Global,
+    tokens: &[Token],
+    room: u32,
+) -> Result<(Vec<ClassName>, &[Token]), Stop>
+    ensures { Gives (λ x. (map class_name_of x.0.items, seen x.1.now)) result (whole_at room (seen tokens.now)) }
+{
+    let (_, rest) = take_word(tokens, Keyword::Lock)?;
+    let (_, rest) = take_open(rest, Sign::OpenParen, room)?;
+    ended_by(class_list(alloc, rest), Sign::CloseParen)
+}
+
+/// Parses the lock classes that a section takes whole, or nothing.
+#[tactic(auto, unfolding(crate::specs::Working::Reading::choose))]
+pub fn classes(
+    alloc: Global,
+    tokens: &[Token],
+    room: u32,
+) -> Result<(Vec<ClassName>, &[Token]), Stop>
+    ensures { Gives (λ x. (map class_name_of x.0.items, seen x.1.now)) result (classes_at room (seen tokens.now)) }
+{
+    if !is_word_next(tokens, Keyword::Lock) {
+        return Ok((Vec::new(alloc), tokens));
+    }
+    some_classes(alloc, tokens, room)
 }

@@ -76,7 +76,8 @@ fn stmts(alloc: Global, tokens: &[Token], room: u32) -> Result<(Vec<Stmt>, &[Tok
 /// Parses statements in braces, in which `room` signs may be opened, the first brace included.
 #[cycle(stmt)]
 pub fn block(alloc: Global, tokens: &[Token], room: u32) -> Result<(Block, &[Token]), Stop>
-    ensures { Gives (λ x. ((stmts_of x.0.stmts.items, x.0.close), seen x.1.now)) result (braced_at room (seen tokens.now)) }
+    ensures { Gives (λ x. ((stmts_of x.0.stmts.items, x.0.close), seen x.1.now)) result
+        (braced_at room (seen tokens.now)) }
 {
     let (_, rest) = take_open(tokens, Sign::OpenBrace, room)?;
     let (stmts, rest) = stmts(alloc, rest, room - 1)?;
@@ -128,7 +129,8 @@ fn while_rest(
     tokens: &[Token],
     room: u32,
 ) -> Result<(Stmt, &[Token]), Stop>
-    ensures { Gives (λ x. (stmt_of x.0, seen x.1.now)) result (while_with room (stmts_in room) start (seen tokens.now)) }
+    ensures { Gives (λ x. (stmt_of x.0, seen x.1.now)) result
+        (while_with room (stmts_in room) start (seen tokens.now)) }
 {
     let (condition, rest) = condition(alloc, tokens, room)?;
     let (block, rest) = block(alloc, rest, room)?;

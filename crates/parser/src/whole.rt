@@ -49,7 +49,8 @@ pub fn parse(alloc: Global, tokens: &[Token]) -> Result<Tree, Refusal>
     // The fault is a fault of the tokens.
     ensures fault { IfErr result (IsRefusal (seen tokens.now)) }
     // Tokens with a misplaced or missing return are refused with the first one, unless memory runs out.
-    ensures misplaced { (start : ℕ) → IsMisplaced (seen tokens.now) start → MatchResult result (λ _. ⊥) (IsFaultAt MisplacedReturn start) }
+    ensures misplaced { (start : ℕ) → IsMisplaced (seen tokens.now) start →
+        MatchResult result (λ _. ⊥) (IsFaultAt MisplacedReturn start) }
 {
     match program(alloc, tokens, NESTING_LIMIT) {
         Ok(tree) => match return_fault(&tree.decls) {

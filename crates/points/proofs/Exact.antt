@@ -16,7 +16,7 @@ use Rattle.flow.specs.Points.{Point, points, scopes, bound_at, IsScopeAt}
 use Rattle.flow.specs.Working.Laws.{PointsAreCounted, ScopesAreCounted}
 use Rattle.flow.specs.Theory.TreeScopes.{names}
 use Rattle.locks.specs.declared.path.Root.{Root}
-use Rattle.locks.specs.declared.path.Root.TheVariants.{GlobalLock, Local as AtLocal}
+use Rattle.locks.specs.declared.path.Root.TheVariants.{GlobalLock, WholeClass, Local as AtLocal}
 use Rattle.locks.specs.declared.path.LockPath as written
 use Rattle.locks.specs.declared.path_set.PathSet.{PathSet}
 use Rattle.locks.specs.LockPaths.{LockPath, Uses, IsRootInScope, IsInScope, BindsRoot, lock_path_of, lock_paths}
@@ -44,6 +44,7 @@ bound_root : (o : Option ℕ) (root : Root) →
     Decides (elim o [ None ↦ false | Some k ↦ is_at k root ]) ((k : ℕ) × (root ≡ AtLocal k) × (o ≡ Some k))
 bound_root None root = decides_not false _ refl (λ h. none-some h.0 h.2)
 bound_root (Some k) GlobalLock = decides_not false _ refl (λ h. absurd cc)
+bound_root (Some k) (WholeClass s) = decides_not false _ refl (λ h. absurd cc)
 bound_root (Some k) (AtLocal j) = (
   (λ t. (k, ap AtLocal (sym (eqb-true k j t)), refl)),
   (λ h. let a : j ≡ h.0 = cc in let b : k ≡ h.0 = cc in eq-eqb k j (b ∙ sym a)),
@@ -150,6 +151,7 @@ module _ (program : Typed) (section : Section) (counted : PointsAreCounted) wher
     among_tells : (root : Root) (p : ℕ) (scope : List ℕ) → IsScopeAt section p scope →
         Decides (is_among scope root) (IsRootInScope section p root)
     among_tells GlobalLock p scope at = ((λ t. tt), (λ h. refl))
+    among_tells (WholeClass s) p scope at = ((λ t. tt), (λ h. refl))
     among_tells (AtLocal k) p scope at =
         let d = named k scope in
         ((λ t. (scope, at, d.0 t)), (λ h. d.1 (subst (λ s. Contains s k) (same_Some h.0 scope (sym h.1 ∙ at)) h.2)))

@@ -17,7 +17,7 @@ use Rattle.flow.specs.Points.{inner_scopes, scopes_of_all, scope_of_return, scop
 use Rattle.flow.specs.Theory.TreeScopes.{names}
 use Rattle.flow.specs.Theory.Views.{inner_scopes-If, inner_scopes-IfElse, inner_scopes-While}
 use Rattle.locks.specs.declared.path.Root.{Root}
-use Rattle.locks.specs.declared.path.Root.TheVariants.{GlobalLock, Local as AtLocal}
+use Rattle.locks.specs.declared.path.Root.TheVariants.{GlobalLock, WholeClass, Local as AtLocal}
 use Rattle.locks.specs.declared.path.LockPath as written
 use Rattle.locks.specs.declared.path_set.PathSet.{PathSet}
 use Rattle.locks.specs.Sets.{has}
@@ -74,6 +74,7 @@ module _ (r : List written.LockPath) where
     where
       by_root : (root : Root) → (is_among locals root || is_at local root) ≡ is_among (local ∷ locals) root
       by_root GlobalLock = refl
+      by_root (WholeClass s) = refl
       by_root (AtLocal k) = or_comm (names k locals) (local == k)
 
   -- after a statement that binds a local

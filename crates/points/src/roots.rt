@@ -27,7 +27,8 @@ pub struct Roots<'a> {
 impl<'a> Roots<'a> {
     /// For each point, the paths whose root it binds.
     pub fn bound(&self, alloc: Global, points: &[PointRef<'a>]) -> Result<Vec<PathSet>, NoMemory>
-        ensures { IfOk result (λ sets. (i : ℕ) → column i sets.items ≡ map (binds self.now.paths.now i) (map point_at points.now)) }
+        ensures { IfOk result
+            (λ sets. (i : ℕ) → column i sets.items ≡ map (binds self.now.paths.now i) (map point_at points.now)) }
     {
         let mut sets = Vec::with_capacity(alloc, points.len())?;
         for point in points {
@@ -38,7 +39,8 @@ impl<'a> Roots<'a> {
 
     /// For each point, the paths in scope before it.
     pub fn in_scope(&self, alloc: Global, section: &Section) -> Result<Vec<PathSet>, NoMemory>
-        ensures { IfOk result (λ sets. (i : ℕ) → column i sets.items ≡ map (in_scope self.now.paths.now i) (scopes section.now)) }
+        ensures { IfOk result
+            (λ sets. (i : ℕ) → column i sets.items ≡ map (in_scope self.now.paths.now i) (scopes section.now)) }
     {
         let mut sets = Vec::new(alloc);
         let opening = self.among_parameters(section.parameters);
@@ -164,7 +166,7 @@ impl<'a> Roots<'a> {
         ensures { result ≡ is_at local root }
     {
         match root {
-            Root::GlobalLock => false,
+            Root::GlobalLock | Root::WholeClass(_) => false,
             Root::Local(other) => local == other,
         }
     }
@@ -173,7 +175,7 @@ impl<'a> Roots<'a> {
         ensures { result ≡ is_among (numbers_from 0 parameters) root }
     {
         match root {
-            Root::GlobalLock => true,
+            Root::GlobalLock | Root::WholeClass(_) => true,
             Root::Local(local) => local < parameters,
         }
     }

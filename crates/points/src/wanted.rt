@@ -70,7 +70,8 @@ impl Points {
     }
 
     fn wanted_by(&self, alloc: Global, ranks: &[u32]) -> Result<Wanted, NoMemory>
-        ensures sets { IfOk result (λ sets. AreWantedBy self.now (ranks_by_path self.now ranks.now) (vec_len sets) sets.items) }
+        ensures sets { IfOk result
+            (λ sets. AreWantedBy self.now (ranks_by_path self.now ranks.now) (vec_len sets) sets.items) }
         ensures len { IfOk result (λ sets. vec_len sets ≡ count (skeleton_of self.now.parts.items)) }
     {
         let by_path = ranks_of(alloc, ranks, &self.classes)?;

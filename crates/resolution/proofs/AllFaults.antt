@@ -66,8 +66,8 @@ use Rattle.resolution.specs.Working.FaultLists.{unlike, side_faults, operator_fa
 use Rattle.resolution.specs.Working.FaultLists.{no_target, no_array, final_faults, target_faults, owner_field_faults}
 use Rattle.resolution.specs.Working.FaultLists.{other_type, global_lock_faults, lock_faults, passed_faults, last_faults}
 use Rattle.resolution.specs.Working.FaultLists.{protection_faults, some_lacks, is_at, is_due, lacks, missing_faults}
-use Rattle.resolution.specs.Working.FaultLists.{field_faults, named_faults, null_faults, call_faults, again, twice}
-use Rattle.resolution.specs.Working.FaultLists.{twice_faults, member_twice_faults, struct_faults, first_too_many}
+use Rattle.resolution.specs.Working.FaultLists.{field_faults, named_faults, null_faults, call_faults, again, class_faults}
+use Rattle.resolution.specs.Working.FaultLists.{twice, twice_faults, member_twice_faults, struct_faults, first_too_many}
 use Rattle.resolution.specs.Working.FaultLists.{lock_count, member_counts, count_faults, total_faults, given_before}
 use Rattle.resolution.specs.Working.FaultLists.{init_target_again, repeated, repeated_faults, each_faults}
 use Rattle.resolution.specs.Working.FaultLists.{declaration_faults}
@@ -80,7 +80,7 @@ use Rattle.resolution.proofs.Members.{at, at_if}
 use Rattle.resolution.proofs.Named.{member_is}
 use Rattle.resolution.proofs.Parts.{chain_link, of_place_at, of_decl, of_stmt, of_owner, helper_call_decls, stmt_decls}
 use Rattle.resolution.proofs.Parts.{of_wanted, expr_decls, of_expr, own, of_param, of_local, local_decls}
-use Rattle.resolution.proofs.Parts.{in_members_field, of_type, of_call, of_const}
+use Rattle.resolution.proofs.Parts.{in_members_field, of_type, of_call, of_const, of_class, of_listed_lock}
 use Rattle.resolution.proofs.HelperFaults.{listed, unfit_in, misfit_is, other_count, of_helper_name, of_result}
 use Rattle.resolution.proofs.HelperFaults.{no_helper_is, no_result_is, counted_is}
 use Rattle.resolution.proofs.Tests.{lt_true, le_true, both_true}
@@ -92,6 +92,12 @@ use Rattle.resolution.proofs.AllPaths.{of_init_field, of_member, of_owner_name}
 unfit_member_in : (decls : List Decl) (c : Code) (p : ℕ) {w : Why} (x : Member) → member_has_type decls x ≡ true →
     unfit_member decls (told c p w) x ≡ reasoned c p w
 unfit_member_in decls c p {w = w} x e = ap (λ (b : Bool). found_if b (told c p w)) e
+
+no_lock_is : (decls : List Decl) (p k : ℕ) (x : Member) → (IsLockMember x → ⊥) → member_has_type decls x ≡ true →
+    list.no_lock decls p (Some (k, x)) ≡ reasoned WrongType p why.ListedMember
+no_lock_is decls p k (lock_member y) not_so t = absurd (not_so tt)
+no_lock_is decls p k (final_member f) not_so t = unfit_member_in decls WrongType p (final_member f) t
+no_lock_is decls p k (field_member f) not_so t = unfit_member_in decls WrongType p (field_member f) t
 
 -- ---- E02
 
@@ -173,6 +179,8 @@ twice_in decls p (fault.two_decls before behind d {x = x} parts is e) =
 twice_in decls p (fault.two_members {s = s} before behind x h parts e) =
     of_structs decls _ (in_structs decls s h _ (subst (λ (ms : List Member). IsAmong (record { code = DeclaredTwice; start = (member_name x).span.start }) (member_twice_faults [] ms)) (sym parts) (in_member_twice [] before behind x _ (at DeclaredTwice (member_name x).span.start _ (ap (again (member_name x).span.start) e)))))
 twice_in decls p (fault.two_locals {sc = sc} {x = x} h is) = twice_at decls sc x h (ap (λ (l : Option (ℕ × Local)). taken x.span.start l (the_decl sc.decls x.text)) is)
+twice_in decls p (fault.two_classes {limits = limits} {s = s} before behind c h parts e) =
+    of_class decls limits s before behind c h parts _ (among_right _ (class_faults decls c) _ (at DeclaredTwice c.structure.span.start _ (ap (again c.structure.span.start) e)))
 twice_in decls p (fault.top_level {sc = sc} {x = x} {f = f} h is) =
     twice_at decls sc x h (ap (λ (ds : List Decl). taken x.span.start (the_local sc.locals x.text) (the_decl ds x.text)) (local_decls decls sc x h) ∙ ap (taken x.span.start (the_local sc.locals x.text)) is ∙ taken_some x.span.start (the_local sc.locals x.text) f)
 
@@ -199,6 +207,7 @@ unknown_in decls p (fault.no_field_initialised {i = x} {ms = ms} h is e) = of_in
 unknown_in decls p (fault.no_field {sc = sc} {x = x} {fs = fs} before behind y steps k {s = s} h parts to is e) =
     of_path decls sc x fs h _ (λ same. in_path sc.decls x.span.start (meaning sc x.text) fs before behind y _ parts (at UnknownName y.span.start _ (unknown_field decls sc.decls x.span.start (meaning sc x.text) before y steps k s same to is e)))
 unknown_in decls p (fault.no_final {ms = ms} {f = y} h e) = of_member decls ms y h _ (λ ds same. at UnknownName y.span.start _ (ap (list.no_final ds y.span.start) e))
+unknown_in decls p (fault.no_member_listed {ms = ms} {x = y} h e) = of_listed_lock decls ms y h _ (at UnknownName y.span.start _ (ap (list.no_lock decls y.span.start) e))
 unknown_in decls p (fault.no_owner {sc = sc} {l = l} {o = o} h is) = of_owner_name decls sc l o h UnknownName (ap (list.no_owner sc.decls o.local.span.start (owner_field sc.decls (type_of sc l.value_type) o.field)) is)
 unknown_in decls p (fault.no_lock {p = q} h e) = of_global_lock decls q h _ (at UnknownName q.first.span.start _ (ap (λ (o : Option (ℕ × Decl)). global_lock_faults decls q.first.span.start o q.rest) e))
 unknown_in decls p (fault.no_field_passed {p = q} {st = st} {y = y} {ys = ys} h e) = unknown_passed decls q st y ys h e
@@ -342,6 +351,8 @@ wrong_in decls p (fault.no_pool {w = w} {p = x} {n = n} {i = k} {d = d} h is not
 wrong_in decls p (fault.no_pool_initialised {j = x} {i = k} {d = d} h is not_so t) = of_init_index decls x h _ (at WrongType x.pool.span.start _ (ap (λ (o : Option (ℕ × Decl)). index_faults decls x.pool.span.start o x.index) is ∙ no_pool_is decls x.pool.span.start k d x.index not_so t))
 wrong_in decls p (fault.not_final {ms = ms} {f = y} {g = g} h e t) =
     of_member decls ms y h _ (λ ds same. at WrongType y.span.start _ (ap (list.no_final ds y.span.start) e ∙ unfit_member_in ds WrongType y.span.start (field_member g) (ap (λ (cs : List Decl). member_has_type cs (field_member g)) same ∙ t)))
+wrong_in decls p (fault.no_lock_listed {ms = ms} {x = y} {i = k} {m = m} h e not_so t) =
+    of_listed_lock decls ms y h _ (at WrongType y.span.start _ (ap (list.no_lock decls y.span.start) e ∙ no_lock_is decls y.span.start k m not_so t))
 wrong_in decls p (fault.number_owned {sc = sc} {l = l} {o = o} h is) =
     of_owner decls sc l o h _ (among_left _ (owner_field_faults sc.decls (type_of sc l.value_type) o.field) _ (at WrongType o.field.span.start _ (ap (λ (t : Option core_type.ValueType). owner_field_faults sc.decls t o.field) is)))
 wrong_in decls p (fault.owner_no_local {sc = sc} {l = l} {o = o} {i = n} {d = d} h is t) =

@@ -1,14 +1,15 @@
 -- Sections and threads without a listed fault are resolved.
 use Rattle.std.proofs.Common.{◌≡◌, ℕ, suc, ◌+◌, ◌≤◌, List, [], ◌∷◌, ◌++◌, length, Option, Some, None, Bool, true, false}
 use Rattle.std.proofs.Common.{◌⊎◌, inl, inr, refl, sym, ap, ◌∙◌, subst, if◌then◌else◌, arith}
-use Rattle.std.specs.Prelude.{nat_le, ◌==◌}
+use Rattle.std.specs.Prelude.{nat_le, is_some, ◌==◌}
 use Rattle.std.proofs.lemmas.Bool.{eqb-true}
 use Rattle.source.specs.declared.fault.Code.TheVariants.{UnknownName, WrongType, WrongArgumentCount, LimitExceeded}
 use Rattle.syntax.specs.Returns.{ReturnsRight, HasReturn, this_returns, returns_inside, later_returns, HasStrayReturn}
 use Rattle.syntax.specs.Returns.{this_early, stray_inside, later_stray, EndsInReturn, IsSectionFault, no_result, stray}
 use Rattle.syntax.specs.Returns.{missing, IsReturnFault, this_section, this_helper, later_section}
-use Rattle.syntax.specs.Trees.{ValueType, Const, Param, Section, Item, call, repeat, Items, no_items, item, Stmts, stmt}
-use Rattle.syntax.specs.Trees.{Decl, lock, struct, global, array, pool, init, atomic, helper, thread}
+use Rattle.syntax.specs.Trees.{Ident, ValueType, ref_type, Const, Struct, Member, lock_member, final_member}
+use Rattle.syntax.specs.Trees.{field_member, Param, ClassName, Section, Item, call, repeat, Items, no_items, item}
+use Rattle.syntax.specs.Trees.{Stmts, stmt, Decl, lock, struct, global, array, pool, init, atomic, helper, thread}
 use Rattle.core_lang.specs.declared.value.Value.{Value}
 use Rattle.core_lang.specs.declared.value.ValueType as core_type
 use Rattle.core_lang.specs.declared.tree.LocalKind.TheVariants as kind
@@ -17,21 +18,27 @@ use Rattle.source.specs.Texts.{SOURCE_LIMIT}
 use Rattle.resolution.specs.declared.body_limits.BodyLimits.{BodyLimits}
 use Rattle.resolution.specs.Scopes as scope
 use Rattle.resolution.specs.Scopes.{◌>>=◌, Scope, outside, a_decl, number_at, the_decl, type_of, result_of, bound}
-use Rattle.resolution.specs.Scopes.{entered}
+use Rattle.resolution.specs.Scopes.{entered, declared_as, bears, the_member, member_has_type, place_of, same_class}
 use Rattle.resolution.specs.Constants.{AreArguments}
 use Rattle.resolution.specs.Working.TypedConstants.{added}
 use Rattle.resolution.specs.Statements.{ahead_of, entry}
-use Rattle.resolution.specs.Working.TypedSections.{core_locals, section_with, section_of, typed_section}
+use Rattle.resolution.specs.Working.TypedSections.{core_locals, class_at, class_in, class_named, classes_named}
+use Rattle.resolution.specs.Working.TypedSections.{section_with, section_of, typed_section}
 use Rattle.resolution.specs.Tables.{copies, AreCalls, no_call, one_call, repeated}
 use Rattle.resolution.specs.Working.TypedStatements.{typed_body, Body}
 use Rattle.resolution.specs.Statements.{after_all}
-use Rattle.resolution.specs.Where.{Has, first, further, HasBody, of_section, of_helper}
+use Rattle.resolution.specs.Where.{Has, first, further, HasBody, of_section, of_helper, of_final, of_field}
 use Rattle.resolution.specs.declared.why.Why.TheVariants as why
 use Rattle.resolution.specs.declared.why.Role.TheVariants as role
+use Rattle.resolution.specs.Working.FaultLists as list
+use Rattle.resolution.specs.Working.Findings.{told}
+use Rattle.resolution.specs.Working.FaultLists.{no_struct, no_lock_in, class_faults, again, listed_faults}
 use Rattle.resolution.specs.Working.FaultLists.{reasoned, one_if, misnamed, type_faults, argument_faults, local_faults}
 use Rattle.resolution.specs.Working.FaultLists.{stmts_faults, param_faults, result_faults, section_faults, call_faults}
 use Rattle.resolution.specs.Working.FaultLists.{item_faults, items_faults}
-use Rattle.resolution.proofs.FaultlessExpressions.{NoneIn, none_left, none_right, not_one, unfit_not, decl_has}
+use Rattle.resolution.proofs.Named.{named_is, member_is}
+use Rattle.resolution.proofs.FaultlessExpressions.{NoneIn, none_left, none_right, not_one, not_found, at_has}
+use Rattle.resolution.proofs.FaultlessExpressions.{known, known_named, unfit_not, decl_has}
 use Rattle.resolution.proofs.FaultlessExpressions.{decl_typed, Clean, Typing, type_is, AllTyped, Context}
 use Rattle.resolution.proofs.FaultlessStatements.{HasResult, typed_push, all_context, body_is}
 use Rattle.resolution.proofs.FaultlessConstants.{arguments_are}
@@ -98,6 +105,58 @@ section_right : (decls : List Decl) (limits : BodyLimits) (s : Section) → HasB
 section_right decls limits s (of_section h) at f = section_in_right decls s h at f
 section_right decls limits s (of_helper h) at f = helper_in_right decls s h at f
 
+-- ---- listed lock classes
+
+module _ (decls : List Decl) (clean : Clean decls) where
+  member_is_lock : (i p : ℕ) (s : Struct) → Has decls (struct s) → (o : Option (ℕ × Member)) →
+      ((n : ℕ) (x : Member) → ◌≡◌ {A = Option (ℕ × Member)} o (Some (n, x)) → Has s.members x) →
+      NoneIn (list.no_lock decls p o) → (n : ℕ) × (class_at decls i s.members o ≡ Some n)
+  member_is_lock i p s h None up none = absurd (not_one UnknownName p none)
+  member_is_lock i p s h (Some (n, lock_member x)) up none = (_, refl)
+  member_is_lock i p s h (Some (n, final_member g)) up none =
+      let t = known_named decls clean g.target (of_final h (up n (final_member g) refl)) in
+      let has : member_has_type decls (final_member g) ≡ true = ap is_some t.is in
+      let not : member_has_type decls (final_member g) ≡ false = not_found (member_has_type decls (final_member g)) (told WrongType p why.ListedMember) none in
+      absurd (let e : true ≡ false = sym has ∙ not in cc)
+  member_is_lock i p s h (Some (n, field_member g)) up none =
+      let t = known decls clean (outside decls) g.value_type (of_field h (up n (field_member g) refl)) in
+      let has : member_has_type decls (field_member g) ≡ true = ap is_some t.is in
+      let not : member_has_type decls (field_member g) ≡ false = not_found (member_has_type decls (field_member g)) (told WrongType p why.ListedMember) none in
+      absurd (let e : true ≡ false = sym has ∙ not in cc)
+
+  decl_is_struct : (p : ℕ) (y : Ident) (o : Option (ℕ × Decl)) →
+      ((n : ℕ) (d : Decl) → ◌≡◌ {A = Option (ℕ × Decl)} o (Some (n, d)) → Has decls d) →
+      NoneIn (no_struct p (declared_as o)) → NoneIn (no_lock_in decls o y) → (n : ℕ) × (class_in decls o y ≡ Some n)
+  decl_is_struct p y None up a b = absurd (not_one UnknownName p a)
+  decl_is_struct p y (Some (i, struct s)) up a b =
+      member_is_lock i y.span.start s (up i (struct s) refl) (the_member s.members y.text) (λ n x g. at_has s.members n x (member_is s.members y.text n x g).0) b
+  decl_is_struct p y (Some (i, lock x)) up a b = absurd (not_one WrongType p a)
+  decl_is_struct p y (Some (i, global v)) up a b = absurd (not_one WrongType p a)
+  decl_is_struct p y (Some (i, array v)) up a b = absurd (not_one WrongType p a)
+  decl_is_struct p y (Some (i, pool q)) up a b = absurd (not_one WrongType p a)
+  decl_is_struct p y (Some (i, init j)) up a b = absurd (not_one WrongType p a)
+  decl_is_struct p y (Some (i, atomic s)) up a b = absurd (not_one WrongType p a)
+  decl_is_struct p y (Some (i, helper s)) up a b = absurd (not_one WrongType p a)
+  decl_is_struct p y (Some (i, thread t)) up a b = absurd (not_one WrongType p a)
+
+  class_is : (c : ClassName) → NoneIn (class_faults decls c) → (n : ℕ) × (class_named decls c ≡ Some n)
+  class_is c none =
+      let a = type_faults (outside decls) (ref_type c.structure) in
+      let b = no_lock_in decls (the_decl decls c.structure.text) c.lock in
+      decl_is_struct c.structure.span.start c.lock (the_decl decls c.structure.text)
+      (λ n d g. at_has decls n d (named_is bears decls c.structure.text n d g).here) (none_left a b none) (none_right a b none)
+
+  listed_are : (before cs : List ClassName) → NoneIn (listed_faults decls before cs) →
+      (ns : List ℕ) × (classes_named decls cs ≡ Some ns)
+  listed_are before [] none = ([], refl)
+  listed_are before (c ∷ cs) none =
+      let a = class_faults decls c in
+      let b = again c.structure.span.start (place_of same_class before c) in
+      let d = listed_faults decls (before ++ c ∷ []) cs in
+      let n = class_is c (none_left a b (none_left (a ++ b) d none)) in
+      let r = listed_are (before ++ c ∷ []) cs (none_right (a ++ b) d none) in
+      (n.0 ∷ r.0, ap (λ (o : Option ℕ). added o (classes_named decls cs)) n.1 ∙ ap (added (Some n.0)) r.1)
+
 -- ---- sections and helpers
 
 result_typed : (decls : List Decl) (s : Section) (t : ValueType) → s.result ≡ Some t →
@@ -109,19 +168,19 @@ no_end : (ss : Stmts) (b : Body) → b.result ≡ None → (EndsInReturn ss → 
     EndsInReturn ss → ⊥
 no_end ss b none some h = let r = some h in let e : None ≡ Some r.0 = sym none ∙ r.1 in cc
 
-section_put : (decls : List Decl) (limits : BodyLimits) (s : Section) (ls : List core.Local) (b : Body) →
+section_put : (decls : List Decl) (limits : BodyLimits) (s : Section) (ls : List core.Local) (cs : List ℕ) (b : Body) →
     ReturnsRight decls → HasBody decls limits s → NoneIn (result_faults decls s.result) →
     (((at : ℕ) → HasReturn s.body.stmts at → ⊥) → b.result ≡ None) → (EndsInReturn s.body.stmts → (r : core.Return) × (b.result ≡ Some r)) →
-    (o : Option ValueType) → s.result ≡ o → (q : Option core.Return) → b.result ≡ q → (x : core.Section) × (section_with decls s ls b.stmts o q ≡ Some x)
-section_put decls limits s ls b right h none never some None is None given = (_, refl)
-section_put decls limits s ls b right h none never some None is (Some r) given =
+    (o : Option ValueType) → s.result ≡ o → (q : Option core.Return) → b.result ≡ q → (x : core.Section) × (section_with decls s ls cs b.stmts o q ≡ Some x)
+section_put decls limits s ls cs b right h none never some None is None given = (_, refl)
+section_put decls limits s ls cs b right h none never some None is (Some r) given =
     let e : Some r ≡ None = sym given ∙ never (λ at i. right at (section_right decls limits s h at (no_result is i))) in cc
-section_put decls limits s ls b right h none never some (Some t) is None given =
+section_put decls limits s ls cs b right h none never some (Some t) is None given =
     absurd (right s.body.close.start (section_right decls limits s h s.body.close.start (missing is (no_end s.body.stmts b given some))))
-section_put decls limits s ls b right h none never some (Some t) is (Some r) given =
+section_put decls limits s ls cs b right h none never some (Some t) is (Some r) given =
     let v = type_is (outside decls) t (subst (λ (o : Option ValueType). NoneIn (result_faults decls o)) is none) in (
-      record { name = s.name.text; parameters = length s.params; locals = ls; result_type = Some v.value_type; body = b.stmts; result = Some r },
-      ap (λ (o : Option core_type.ValueType). o >>= λ w. Some (record { name = s.name.text; parameters = length s.params; locals = ls; result_type = Some w; body = b.stmts; result = Some r })) v.is,
+      record { name = s.name.text; parameters = length s.params; locals = ls; result_type = Some v.value_type; listed = cs; body = b.stmts; result = Some r },
+      ap (λ (o : Option core_type.ValueType). o >>= λ w. Some (record { name = s.name.text; parameters = length s.params; locals = ls; result_type = Some w; listed = cs; body = b.stmts; result = Some r })) v.is,
     )
 
 -- no `return`, or a result
@@ -144,13 +203,17 @@ section_is decls clean right limits s h none =
     let a = result_faults decls s.result in
     let b = param_faults (ahead_of decls limits s) 0 s.params in
     let c = stmts_faults (entry decls limits s) s.body.stmts in
-    let n2 = none_left (a ++ b) c none in
+    let d = listed_faults decls [] s.listed in
+    let n1 = none_left (a ++ b ++ c) d none in
+    let n2 = none_left (a ++ b) c n1 in
+    let cs = listed_are decls clean [] s.listed (none_right (a ++ b ++ c) d none) in
     let sc = entry_context decls clean limits s h (none_right a b n2) in
-    let end = all_context (entry decls limits s) sc s.body.stmts (none_right (a ++ b) c none) in
+    let end = all_context (entry decls limits s) sc s.body.stmts (none_right (a ++ b) c n1) in
     let ls = locals_are (after_all (entry decls limits s) s.body.stmts).decls (after_all (entry decls limits s) s.body.stmts).locals end.locals in
-    let body = body_is (entry decls limits s) sc s.body.stmts (none_right (a ++ b) c none) (stray_right decls limits s right h s.result refl) (returns_or decls limits s right h (none_left a b n2) s.result refl) in
-    let x = section_put decls limits s ls.0 body.body right h (none_left a b n2) body.none body.some s.result refl body.body.result refl in
-    (x.0, ap (λ (o : Option (List core.Local)). section_of decls s o (typed_body (entry decls limits s) s.body.stmts)) ls.1 ∙ ap (section_of decls s (Some ls.0)) body.is ∙ x.1)
+    let body = body_is (entry decls limits s) sc s.body.stmts (none_right (a ++ b) c n1) (stray_right decls limits s right h s.result refl) (returns_or decls limits s right h (none_left a b n2) s.result refl) in
+    let x = section_put decls limits s ls.0 cs.0 body.body right h (none_left a b n2) body.none body.some s.result refl body.body.result refl in
+    (x.0, ap (λ (o : Option (List core.Local)). section_of decls s o (typed_body (entry decls limits s) s.body.stmts)) ls.1 ∙ ap (section_of decls s (Some ls.0)) body.is
+    ∙ ap (λ (o : Option (List ℕ)). ◌>>=◌ {B = core.Section} o (λ ns. section_with decls s ls.0 ns body.body.stmts s.result body.body.result)) cs.1 ∙ x.1)
 
 -- ---- threads
 

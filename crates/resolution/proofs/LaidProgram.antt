@@ -49,6 +49,7 @@ use Rattle.resolution.proofs.LaidLocks.{GlobalClass, ClassFact, LeadIn, EndsIn, 
 use Rattle.resolution.proofs.LaidLocks.{arrays_have, lock_fields_have, fields_have}
 use Rattle.resolution.proofs.LaidScripts.{Argument, threads_of, sectioned, parameter_local, section_at, has_helpers}
 use Rattle.resolution.proofs.LaidScripts.{argument_holds}
+use Rattle.resolution.proofs.LaidPools.{pools_rise}
 use Rattle.resolution.proofs.LaidObjects.{one_of, ObjectAt, objects_of_program, pools_of, globals_of, arrays_of}
 use Rattle.resolution.proofs.LaidObjects.{struct_in, struct_of_object, OwnerFact, cells_of_program, Holds, opened_holds}
 use Rattle.resolution.proofs.LaidObjects.{referred_holds}
@@ -224,6 +225,9 @@ module _ (decls : List Decl) (clean : Clean decls) (program : Typed) (is : Resol
     pool = λ n x e i less.
         (let f = (pools_of decls clean (core_of program) is n (core_pool x) (map_at core_pool program.shape.pools.items n x e)).objects i less in
         (f.object, f.here, f.pool));
+    rise = λ m n x y less ex ey.
+        pools_rise decls clean (core_of program) is m n (core_pool x) (core_pool y) less
+        (map_at core_pool program.shape.pools.items m x ex) (map_at core_pool program.shape.pools.items n y ey);
     structure = λ n x e.
         (let f = pools_of decls clean (core_of program) is n (core_pool x) (map_at core_pool program.shape.pools.items n x e) in
         let r = struct_of_number decls clean (core_of program) is x.structure f.structure f.is in

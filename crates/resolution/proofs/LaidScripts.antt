@@ -135,7 +135,7 @@ result_typed decls t r u (one_result e) = sym e
 
 pub sectioned : (decls : List Decl) (limits : BodyLimits) (s : Section) (x : core.Section) →
     TypesSection decls limits s x → Sectioned decls limits s x
-sectioned decls limits s x (types_section {r = r} {t = t} body result locals) =
+sectioned decls limits s x (types_section {r = r} {t = t} body result listed locals) =
     record { locals = locals; parameters = refl; result = result_typed decls s.result r t result }
 
 -- a parameter's local

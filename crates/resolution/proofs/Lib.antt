@@ -4,6 +4,7 @@ pub mod Members
 pub mod ExpressionRules
 pub mod ConstantRules
 pub mod OwnerRules
+pub mod ListedRules
 pub mod StatementRules
 pub mod TrueExpressions
 pub mod TrueStatements
@@ -39,6 +40,7 @@ pub mod Ruled
 pub mod LaidStages
 pub mod LaidWalk
 pub mod LaidFacts
+pub mod LaidPools
 pub mod LaidObjects
 pub mod LaidProgram
 pub mod LaidLocks

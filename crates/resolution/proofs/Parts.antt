@@ -1,6 +1,7 @@
 -- A fault that is listed for a part of a program is listed for the program.
 use Rattle.std.proofs.Common.{◌≡◌, ℕ, zero, suc, ◌+◌, List, [], ◌∷◌, ◌++◌, length, Option, Some, None, Bool, true, refl}
-use Rattle.std.proofs.Common.{sym, ap, ◌∙◌, subst, if◌then◌else◌, arith}
+use Rattle.std.proofs.Common.{sym, ap, ◌∙◌, subst, append_assoc, if◌then◌else◌, arith}
+use Rattle.std.proofs.lemmas.List.{append-nil}
 use Rattle.std.specs.Prelude.{nat_le, ◌==◌, slice_get}
 use Rattle.std.proofs.lemmas.Bool.Decides.{nat_tests}
 use Rattle.source.specs.declared.fault.Code.TheVariants.{WrongArgumentCount, LimitExceeded}
@@ -10,8 +11,8 @@ use Rattle.syntax.specs.Trees as tree
 use Rattle.syntax.specs.Trees.{Ident, ValueType, ref_type, Const, element, Expr, place, paren, prefix, chain, compare}
 use Rattle.syntax.specs.Trees.{Links, no_links, link, Owner, HelperCall, CalledLocal, Stmt, let_local, let_owned}
 use Rattle.syntax.specs.Trees.{let_call, var_local, assign, if_then, while, print, return_value, Stmts, no_stmts, stmt}
-use Rattle.syntax.specs.Trees.{else_do, Member, lock_member, final_member, field_member, Field, Final, Param, Section}
-use Rattle.syntax.specs.Trees.{Call, call, repeat, Items, no_items, item, Decl, struct, global, array, pool, init}
+use Rattle.syntax.specs.Trees.{else_do, Member, lock_member, final_member, field_member, Field, Final, Param, ClassName}
+use Rattle.syntax.specs.Trees.{Section, Call, call, repeat, Items, no_items, item, Decl, struct, global, array, pool, init}
 use Rattle.syntax.specs.Trees.{atomic, helper, thread}
 use Rattle.core_lang.specs.declared.value.ValueType.TheVariants.{Integer}
 use Rattle.core_lang.specs.declared.tree.LocalKind.TheVariants as kind
@@ -20,7 +21,8 @@ use Rattle.resolution.specs.declared.finding.Finding.{Finding}
 use Rattle.resolution.specs.declared.wanted.Want.{Want}
 use Rattle.resolution.specs.declared.wanted.Want.TheVariants.{Anything, Condition, Value}
 use Rattle.resolution.specs.declared.body_limits.BodyLimits.{BodyLimits}
-use Rattle.resolution.specs.Scopes.{Scope, outside, meaning, helper_meant, the_decl, type_of, bound, entered, left}
+use Rattle.resolution.specs.Scopes.{Scope, outside, meaning, helper_meant, the_decl, the_member, type_of, place_of}
+use Rattle.resolution.specs.Scopes.{same_class, bound, entered, left}
 use Rattle.resolution.specs.Expressions.{ResolvedExpr, value, truth, want}
 use Rattle.resolution.specs.Working.TypedExpressions.{typed}
 use Rattle.resolution.specs.Statements.{after, after_all}
@@ -35,7 +37,8 @@ use Rattle.resolution.specs.Where.{of_unassignable, of_index, of_while, of_print
 use Rattle.resolution.specs.Where.{of_section, of_helper, HasStmt, in_body, HasHelperCall, by_let, by_itself, HasExpr}
 use Rattle.resolution.specs.Where.{in_stmt, Binds, parameter, a_let, an_owned_let, a_called_let, a_var, HasType}
 use Rattle.resolution.specs.Where.{of_global, of_array, of_pool, of_final, of_field, of_parameter, of_result, of_a_let}
-use Rattle.resolution.specs.Where.{of_an_owned_let, of_a_called_let, of_a_var, InItems, this_call, in_repeat}
+use Rattle.resolution.specs.Where.{of_listed, of_an_owned_let, of_a_called_let, of_a_var, ListsLock, lists_lock}
+use Rattle.resolution.specs.Where.{InItems, this_call, in_repeat}
 use Rattle.resolution.specs.Where.{later_call, HasCall, in_thread, HasConst, opening, initial, argument}
 use Rattle.resolution.specs.Faults.{start_of}
 use Rattle.resolution.proofs.OwnerRules.{wanted_right, wanted_nothing}
@@ -46,7 +49,8 @@ use Rattle.resolution.specs.Working.FaultLists.{side_faults, expr_faults, link_f
 use Rattle.resolution.specs.Working.FaultLists.{type_faults, target_faults, binding_faults, owner_faults, values_faults}
 use Rattle.resolution.specs.Working.FaultLists.{each_value_faults, passed_values_faults, helper_call_faults}
 use Rattle.resolution.specs.Working.FaultLists.{given_back_faults, stmt_faults, stmts_faults, param_faults}
-use Rattle.resolution.specs.Working.FaultLists.{result_faults, section_faults, const_faults, argument_faults}
+use Rattle.resolution.specs.Working.FaultLists.{result_faults, again, no_lock_in, class_faults, listed_faults}
+use Rattle.resolution.specs.Working.FaultLists.{section_faults, const_faults, argument_faults}
 use Rattle.resolution.specs.Working.FaultLists.{lock_faults, protection_faults, members_faults, opening_faults}
 use Rattle.resolution.specs.Working.FaultLists.{missing_faults, index_faults, named_faults, null_faults, call_faults}
 use Rattle.resolution.specs.Working.FaultLists.{item_faults, items_faults, decl_faults, each_faults, twice_faults}
@@ -214,10 +218,55 @@ of_body : (decls : List Decl) (limits : BodyLimits) (x : Section) → HasBody de
 of_body decls limits x (of_section h) f i = of_decl decls (atomic x) h f (λ n at. i)
 of_body decls limits x (of_helper h) f i = of_decl decls (helper x) h f (λ n at. i)
 
+-- the listed faults of a section or a helper but for those of its lock classes
+abbrev but_classes : List Decl → BodyLimits → Section → List Finding
+but_classes decls limits x = result_faults decls x.result ++ param_faults (ahead_of decls limits x) 0 x.params ++ stmts_faults (entry decls limits x) x.body.stmts
+
+of_parts : (decls : List Decl) (limits : BodyLimits) (x : Section) → HasBody decls limits x → (f : Mistake) →
+    IsAmong f (but_classes decls limits x) → IsAmong f (declaration_faults decls)
+of_parts decls limits x h f i = of_body decls limits x h f (among_left f (but_classes decls limits x) (listed_faults decls [] x.listed) i)
+
+in_listed : (decls : List Decl) (ahead before behind : List ClassName) (c : ClassName) (f : Mistake) →
+    IsAmong f (class_faults decls c ++ again c.structure.span.start (place_of same_class (ahead ++ before) c)) →
+    IsAmong f (listed_faults decls ahead (before ++ c ∷ behind))
+in_listed decls ahead [] behind c f i =
+    among_left f (class_faults decls c ++ again c.structure.span.start (place_of same_class ahead c)) (listed_faults decls (ahead ++ c ∷ []) behind)
+    (subst (λ (cs : List ClassName). IsAmong f (class_faults decls c ++ again c.structure.span.start (place_of same_class cs c))) (append-nil ahead) i)
+in_listed decls ahead (b ∷ before) behind c f i =
+    among_right f (class_faults decls b ++ again b.structure.span.start (place_of same_class ahead b)) _
+    (in_listed decls (ahead ++ b ∷ []) before behind c f (subst (λ (cs : List ClassName). IsAmong f (class_faults decls c ++ again c.structure.span.start (place_of same_class cs c))) (sym (append_assoc ahead (b ∷ []) before)) i))
+
+-- of a lock class that a section lists after others
+pub of_class : (decls : List Decl) (limits : BodyLimits) (x : Section) (before behind : List ClassName) (c : ClassName) →
+    HasBody decls limits x → x.listed ≡ before ++ c ∷ behind → (f : Mistake) →
+    IsAmong f (class_faults decls c ++ again c.structure.span.start (place_of same_class before c)) →
+    IsAmong f (declaration_faults decls)
+of_class decls limits x before behind c h parts f i =
+    of_body decls limits x h f (among_right f (but_classes decls limits x) _ (subst (λ (cs : List ClassName). IsAmong f (listed_faults decls [] cs)) (sym parts) (in_listed decls [] before behind c f i)))
+
+split_at : {A : Type 0} (xs : List A) (x : A) → Has xs x →
+    (before : List A) × (behind : List A) × (xs ≡ before ++ x ∷ behind)
+split_at [] x h = elim h [ ]
+split_at (y ∷ xs) x first = ([], xs, refl)
+split_at (y ∷ xs) x (further h) = let r = split_at xs x h in (y ∷ r.0, r.1, ap (λ (ys : List _). y ∷ ys) r.2)
+
+-- of one by itself
+of_own_class : (decls : List Decl) (limits : BodyLimits) (x : Section) (c : ClassName) → HasBody decls limits x →
+    Has x.listed c → (f : Mistake) → IsAmong f (class_faults decls c) → IsAmong f (declaration_faults decls)
+of_own_class decls limits x c h b f i =
+    let r = split_at x.listed c b in
+    of_class decls limits x r.0 r.1 c h r.2 f (among_left f (class_faults decls c) _ i)
+
+-- of the lock's name of one
+pub of_listed_lock : (decls : List Decl) (ms : List Member) (y : Ident) → ListsLock decls ms y → (f : Mistake) →
+    IsAmong f (list.no_lock decls y.span.start (the_member ms y.text)) → IsAmong f (declaration_faults decls)
+of_listed_lock decls ms y (lists_lock {limits = limits} {x = x} {c = c} h b is) f i =
+    of_own_class decls limits x c h b f (among_right f (type_faults (outside decls) (ref_type c.structure)) _ (subst (IsAmong f) (sym (ap (λ (o : Option (ℕ × Decl)). no_lock_in decls o c.lock) is)) i))
+
 pub of_stmt : (decls : List Decl) (sc : Scope) (s : Stmt) → HasStmt decls sc s → (f : Mistake) →
     IsAmong f (stmt_faults sc s) → IsAmong f (declaration_faults decls)
 of_stmt decls sc s (in_body {limits = limits} {x = x} h a) f i =
-    of_body decls limits x h f (among_right f (result_faults decls x.result ++ param_faults (ahead_of decls limits x) 0 x.params) _ (among (entry decls limits x) sc x.body.stmts s a f i))
+    of_parts decls limits x h f (among_right f (result_faults decls x.result ++ param_faults (ahead_of decls limits x) 0 x.params) _ (among (entry decls limits x) sc x.body.stmts s a f i))
 
 -- what is listed for a `let` with an owner: for its parts as those of any, and for what follows `where`
 of_binding : (decls : List Decl) (sc : Scope) (l : tree.Local) (o : Owner) → HasStmt decls sc (let_owned l o) →
@@ -288,7 +337,7 @@ pub of_param : (decls : List Decl) (limits : BodyLimits) (x : Section) (before b
 of_param decls limits x before behind p h parts f i =
     let ahead = ahead_of decls limits x in
     let sc = entered ahead before in
-    of_body decls limits x h f (among_left f (result_faults decls x.result ++ param_faults ahead 0 x.params) (stmts_faults (entry decls limits x) x.body.stmts)
+    of_parts decls limits x h f (among_left f (result_faults decls x.result ++ param_faults ahead 0 x.params) (stmts_faults (entry decls limits x) x.body.stmts)
     (among_right f (result_faults decls x.result) _ (subst (λ (ps : List Param). IsAmong f (param_faults ahead 0 ps)) (sym parts)
     (in_params ahead before behind p 0 f (subst (λ (k : ℕ). IsAmong f (param_faults sc k (p ∷ behind))) (let e : length before ≡ 0 + length before = omega arith in e)
     (among_left f (own sc before p) (param_faults (bound sc kind.Parameter p.name (type_of (outside sc.decls) p.value_type)) (length before + 1) behind) i))))))
@@ -330,12 +379,6 @@ in_members_field decls n all (lock_member x ∷ ms) g (further h) f i = in_membe
 in_members_field decls n all (final_member x ∷ ms) g (further h) f i = among_right f (type_faults (outside decls) (ref_type x.target)) _ (in_members_field decls n all ms g h f i)
 in_members_field decls n all (field_member x ∷ ms) g (further h) f i = among_right f (type_faults (outside decls) x.value_type ++ protection_faults decls n all x.name.span.start x.protection) _ (in_members_field decls n all ms g h f i)
 
-split_at : {A : Type 0} (xs : List A) (x : A) → Has xs x →
-    (before : List A) × (behind : List A) × (xs ≡ before ++ x ∷ behind)
-split_at [] x h = elim h [ ]
-split_at (y ∷ xs) x first = ([], xs, refl)
-split_at (y ∷ xs) x (further h) = let r = split_at xs x h in (y ∷ r.0, r.1, ap (λ (ys : List _). y ∷ ys) r.2)
-
 pub of_type : (decls : List Decl) (sc : Scope) (t : ValueType) → HasType decls sc t → (f : Mistake) →
     IsAmong f (type_faults sc t) → IsAmong f (declaration_faults decls)
 of_type decls sc t (of_global {v = v} h) f i =
@@ -349,8 +392,9 @@ of_type decls sc t (of_parameter {limits = limits} {x = x} {p = p} h b) f i =
     let at = entered (ahead_of decls limits x) r.0 in
     of_param decls limits x r.0 r.1 p h r.2 f (among_right f (local_faults at p.name ++ one_if (nat_le at.limits.parameters (length r.0)) LimitExceeded p.name.span.start) _
     (subst (λ (ds : List Decl). IsAmong f (type_faults (outside ds) p.value_type)) (sym (entered_decls (ahead_of decls limits x) r.0)) i))
+of_type decls sc t (of_listed {limits = limits} {x = x} {c = c} h b) f i = of_own_class decls limits x c h b f (among_left f (type_faults (outside decls) (ref_type c.structure)) _ i)
 of_type decls sc t (of_result {limits = limits} {x = x} h is) f i =
-    of_body decls limits x h f (among_left f (result_faults decls x.result ++ param_faults (ahead_of decls limits x) 0 x.params) (stmts_faults (entry decls limits x) x.body.stmts)
+    of_parts decls limits x h f (among_left f (result_faults decls x.result ++ param_faults (ahead_of decls limits x) 0 x.params) (stmts_faults (entry decls limits x) x.body.stmts)
     (among_left f (result_faults decls x.result) (param_faults (ahead_of decls limits x) 0 x.params) (subst (λ (o : Option ValueType). IsAmong f (result_faults decls o)) (sym is) i)))
 of_type decls sc t (of_a_let {l = l} h) f i = of_stmt decls sc (let_local l) h f (among_left f (local_faults sc l.name ++ type_faults sc l.value_type) (wanted_faults sc (want (type_of sc l.value_type)) l.value) (among_right f (local_faults sc l.name) _ i))
 of_type decls sc t (of_an_owned_let {l = l} {o = o} h) f i = of_binding decls sc l o h f (among_left f (local_faults sc l.name ++ type_faults sc l.value_type) (wanted_faults sc (want (type_of sc l.value_type)) l.value) (among_right f (local_faults sc l.name) _ i))

@@ -22,7 +22,7 @@ use Rattle.resolution.specs.Typing.{Types, Gives, TypesOwner, TypesArguments, no
 use Rattle.resolution.specs.Typing.{types_call, TypesStmt, types_let, types_owned, types_let_call, types_var}
 use Rattle.resolution.specs.Typing.{types_assign, types_if, types_if_else, types_while, types_print, types_call_alone}
 use Rattle.resolution.specs.Typing.{TypesBody, types_none, types_return, types_next, TypesLocals, no_local, one_local}
-use Rattle.resolution.specs.Typing.{TypesResult, no_result, one_result, TypesSection, types_section}
+use Rattle.resolution.specs.Typing.{TypesResult, no_result, one_result, TypesListed, TypesSection, types_section}
 use Rattle.resolution.specs.Working.TypedExpressions.{fitting, as_value, number_resolved, test_resolved, typed}
 use Rattle.resolution.specs.Working.TypedOwners.{is_of, owned_by}
 use Rattle.resolution.specs.Working.TypedStatements.{Assignee, target_of, wanted_by, typed_values, called}
@@ -30,7 +30,8 @@ use Rattle.resolution.specs.Working.TypedStatements.{call_resolved, type_given, 
 use Rattle.resolution.specs.Working.TypedStatements.{binds, assigns, prints, returns, repeats, chooses, chooses_between}
 use Rattle.resolution.specs.Working.TypedStatements.{Body, given_back, preceded, block_without, block_of, typed_stmt}
 use Rattle.resolution.specs.Working.TypedStatements.{typed_body}
-use Rattle.resolution.specs.Working.TypedSections.{core_locals, section_with, section_of, typed_section}
+use Rattle.resolution.specs.Working.TypedSections.{core_locals, classes_named, section_with, section_of, typed_section}
+use Rattle.resolution.proofs.ListedRules.{listed_types, listed_are}
 use Rattle.resolution.proofs.ExpressionRules.{When, when, number_when, test_when, expr_types, typed_is, gives_when}
 use Rattle.resolution.proofs.ExpressionRules.{given_is}
 use Rattle.resolution.proofs.OwnerRules.{AssignsTo, place_assigns, target_is, same_type, fits_itself, owner_types}
@@ -440,30 +441,32 @@ locals_are (one_local {l = l} {t = t} {ls = ls} is k) =
     ∙ ap (added (Some (record { name = l.name; kind = l.kind; value_type = t }))) (locals_are k)
 
 -- a section by its parts
-abbrev section_by : Section → List core.Local → core.Stmts → Option core.Return → Option ValueType → core.Section
-section_by s locals body r t =
+abbrev section_by : Section → List core.Local → List ℕ → core.Stmts → Option core.Return → Option ValueType →
+    core.Section
+section_by s locals classes body r t =
     record {
       name = s.name.text;
       parameters = length s.params;
       locals = locals;
       result_type = t;
+      listed = classes;
       body = body;
       result =
           r;
     }
 
-with_types : (decls : List Decl) (s : Section) (locals : List core.Local) (body : core.Stmts)
+with_types : (decls : List Decl) (s : Section) (locals : List core.Local) (classes : List ℕ) (body : core.Stmts)
     (w : Option tree.ValueType) (r : Option core.Return)
     (P : core.Section → Type 0) →
-    ((t : Option ValueType) → TypesResult decls w r t → P (section_by s locals body r t)) →
-    When P (section_with decls s locals body w r)
-with_types decls s locals body None None P h = h None no_result
-with_types decls s locals body None (Some r) P h = tt
-with_types decls s locals body (Some w) None P h = tt
-with_types decls s locals body (Some w) (Some r) P h = by_type (type_of (outside decls) w) refl
+    ((t : Option ValueType) → TypesResult decls w r t → P (section_by s locals classes body r t)) →
+    When P (section_with decls s locals classes body w r)
+with_types decls s locals classes body None None P h = h None no_result
+with_types decls s locals classes body None (Some r) P h = tt
+with_types decls s locals classes body (Some w) None P h = tt
+with_types decls s locals classes body (Some w) (Some r) P h = by_type (type_of (outside decls) w) refl
   where
     by_type : (o : Option ValueType) → type_of (outside decls) w ≡ o →
-        When P (◌>>=◌ {B = core.Section} o (λ t. Some (section_by s locals body (Some r) (Some t))))
+        When P (◌>>=◌ {B = core.Section} o (λ t. Some (section_by s locals classes body (Some r) (Some t))))
     by_type None e = tt
     by_type (Some t) e = h (Some t) (one_result e)
 
@@ -480,8 +483,15 @@ section_types decls limits s =
         When (TypesSection decls limits s) (section_of decls s ls b)
     by_parts None h b k = tt
     by_parts (Some ls) h None k = tt
-    by_parts (Some ls) h (Some b) k =
-        with_types decls s ls b.stmts s.result b.result (TypesSection decls limits s) (λ t q. types_section k q h)
+    by_parts (Some ls) h (Some b) k = by_classes (classes_named decls s.listed) (listed_types decls s.listed)
+      where
+        by_classes : (cs : Option (List ℕ)) → When (TypesListed decls s.listed) cs →
+            When (TypesSection decls limits s) (◌>>=◌ {B = core.Section} cs
+            (λ classes. section_with decls s ls classes b.stmts s.result b.result))
+        by_classes None l = tt
+        by_classes (Some cs) l =
+            with_types decls s ls cs b.stmts s.result b.result (TypesSection decls limits s)
+            (λ t q. types_section k q l h)
 
 pub types_the_section : (decls : List Decl) (limits : BodyLimits) (s : Section) (x : core.Section) →
     typed_section decls limits s ≡ Some x →
@@ -490,18 +500,22 @@ types_the_section decls limits s x is =
     when (TypesSection decls limits s) (typed_section decls limits s) (section_types decls limits s) x is
 
 with_is : {decls : List Decl} {w : Option tree.ValueType} {r : Option core.Return} {t : Option ValueType} (s : Section)
-    (locals : List core.Local) (body : core.Stmts) →
-    TypesResult decls w r t → section_with decls s locals body w r ≡ Some (section_by s locals body r t)
-with_is s locals body no_result = refl
-with_is s locals body (one_result {r = r} is) =
-    ap (λ (o : Option ValueType). ◌>>=◌ {B = core.Section} o (λ t. Some (section_by s locals body (Some r) (Some t))))
+    (locals : List core.Local) (classes : List ℕ) (body : core.Stmts) →
+    TypesResult decls w r t → section_with decls s locals classes body w r ≡ Some (section_by s locals classes body r t)
+with_is s locals classes body no_result = refl
+with_is s locals classes body (one_result {r = r} is) =
+    ap (λ (o : Option ValueType). ◌>>=◌ {B = core.Section} o
+    (λ t. Some (section_by s locals classes body (Some r) (Some t))))
     is
 
 pub section_is : {decls : List Decl} {limits : BodyLimits} {s : Section} {x : core.Section} →
     TypesSection decls limits s x →
     typed_section decls limits s ≡ Some x
-section_is {decls = decls} {limits = limits} (types_section {s = s} {locals = locals} {stmts = stmts} {r = r} k q h) =
+section_is {decls = decls} {limits = limits}
+    (types_section {s = s} {locals = locals} {stmts = stmts} {r = r} {classes = classes} k q l h) =
     ap (λ (ls : Option (List core.Local)). section_of decls s ls (typed_body (entry decls limits s) s.body.stmts))
     (locals_are h)
     ∙ ap (section_of decls s (Some locals)) (body_is k)
-    ∙ with_is s locals stmts q
+    ∙ ap (λ (cs : Option (List ℕ)). ◌>>=◌ {B = core.Section} cs
+    (λ ns. section_with decls s locals ns stmts s.result r)) (listed_are l)
+    ∙ with_is s locals classes stmts q

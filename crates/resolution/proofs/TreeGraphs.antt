@@ -47,7 +47,7 @@ result_same (one_result is) = refl
 
 parts_of : {decls : List Decl} {limits : BodyLimits} {s : Section} {x : core.Section} → TypesSection decls limits s x →
     Parts decls limits s x
-parts_of (types_section b r ls) =
+parts_of (types_section b r l ls) =
     record { locals = ls; body = b; same_parameters = refl; same_result = result_same r }
 
 pub body_of_section : (decls : List Decl) (limits : BodyLimits) (s : Section) (x : the_section.Section) →

@@ -8,10 +8,10 @@ use Rattle.source.specs.declared.span.Span.{Span}
 use Rattle.source.specs.declared.fault.Code.TheVariants.{DeclaredTwice, UnknownName, WrongType, WrongArgumentCount}
 use Rattle.source.specs.declared.fault.Code.TheVariants.{NotAssignable, LimitExceeded, LockAsValue}
 use Rattle.syntax.specs.Trees as tree
-use Rattle.syntax.specs.Trees.{Ident, ValueType, Place, lone, element, path, Expr, Owner, HelperCall, CalledLocal, Stmt}
+use Rattle.syntax.specs.Trees.{Ident, ValueType, ref_type, Place, lone, element, path, Expr, Owner, HelperCall, CalledLocal, Stmt}
 use Rattle.syntax.specs.Trees.{let_local, let_owned, let_call, var_local, assign, if_then, while, print, return_value}
 use Rattle.syntax.specs.Trees.{call, Stmts, no_stmts, stmt, Otherwise, no_else, else_do, Member, lock_member}
-use Rattle.syntax.specs.Trees.{final_member, field_member, Struct, Param, Section, Decl, lock, struct, global, array}
+use Rattle.syntax.specs.Trees.{final_member, field_member, Struct, Param, ClassName, Section, Decl, lock, struct, global, array}
 use Rattle.syntax.specs.Trees.{pool, init, atomic, helper, thread}
 use Rattle.core_lang.specs.declared.value.ValueType as core_type
 use Rattle.core_lang.specs.declared.value.ValueType.TheVariants.{Integer, Reference}
@@ -24,7 +24,7 @@ use Rattle.resolution.specs.declared.wanted.Want.TheVariants.{Anything, Conditio
 use Rattle.resolution.specs.declared.body_limits.BodyLimits.{BodyLimits}
 use Rattle.resolution.specs.Scopes.{Scope, Local, outside, Meaning, a_local, a_decl, nothing, meaning, helper_meant}
 use Rattle.resolution.specs.Scopes.{the_decl, the_struct, the_member, the_local, has_type, member_has_type, type_of}
-use Rattle.resolution.specs.Scopes.{result_of, bound, entered, left}
+use Rattle.resolution.specs.Scopes.{place_of, same_class, result_of, bound, entered, left}
 use Rattle.resolution.specs.Expressions.{fits_type, want, Walk, reached, at_lock, lost, walk_from}
 use Rattle.resolution.specs.declared.owner_field.OwnerField.{OwnerField}
 use Rattle.resolution.specs.Working.TypedOwners.{owner_field}
@@ -39,6 +39,7 @@ use Rattle.resolution.specs.Where.{of_while, of_print, of_return, of_call_alone,
 use Rattle.resolution.specs.Where.{HasHelperCall, by_let, by_itself, in_stmt, is_written, Binds, parameter, a_let}
 use Rattle.resolution.specs.Where.{an_owned_let, a_called_let, a_var, HasType, of_parameter, of_result, of_a_let}
 use Rattle.resolution.specs.Where.{of_an_owned_let, of_a_called_let, of_a_var, NamesOwner, names_owner}
+use Rattle.resolution.specs.Where.{of_listed, ListsLock, lists_lock}
 use Rattle.resolution.specs.Faults as fault
 use Rattle.resolution.specs.Faults.{IsNoValue, IsNoHelper, declared_twice, unknown, for_type, for_count}
 use Rattle.resolution.specs.Faults.{for_target, over_limit, lock_as_value}
@@ -50,7 +51,7 @@ use Rattle.resolution.specs.Working.FaultLists.{binding_faults, no_final_in, own
 use Rattle.resolution.specs.Working.FaultLists.{owner_faults, values_faults, each_value_faults, passed_values_faults}
 use Rattle.resolution.specs.Working.FaultLists.{helper_call_faults, other_result, given_back_faults, called_faults}
 use Rattle.resolution.specs.Working.FaultLists.{stmt_faults, else_faults, stmts_faults, param_faults, result_faults}
-use Rattle.resolution.specs.Working.FaultLists.{section_faults}
+use Rattle.resolution.specs.Working.FaultLists.{again, no_lock_in, listed_faults, section_faults}
 use Rattle.resolution.specs.Theory.Leasts.{IsOneOf}
 use Rattle.resolution.proofs.Members.{IsTrue_of, both, of_reason, of_reason_if, of_one, of_if}
 use Rattle.resolution.proofs.TrueExpressions.{misfit_if, true_type, true_elements, true_path, true_wanted, none_is}
@@ -406,11 +407,59 @@ true_result : (decls : List Decl) (limits : BodyLimits) (s : Section) → HasBod
 true_result decls limits s h None e f i = absurd i
 true_result decls limits s h (Some t) e f i = true_type decls (outside decls) t (of_result h e) f i
 
+-- the lock's name of a listed class
+true_no_lock : (decls : List Decl) (ms : List Member) (y : Ident) → ListsLock decls ms y →
+    (o : Option (ℕ × Member)) → the_member ms y.text ≡ o → (f : Finding) →
+    IsOneOf f (list.no_lock decls y.span.start o) → IsTrue_of decls f
+true_no_lock decls ms y h None is f i = of_one decls UnknownName tt y.span.start f (unknown (fault.no_member_listed h is)) i
+true_no_lock decls ms y h (Some (n, lock_member x)) is f i = absurd i
+true_no_lock decls ms y h (Some (n, final_member x)) is f i = of_reason_if decls (member_has_type decls (final_member x)) WrongType y.span.start f (λ t. for_type (fault.no_lock_listed h is (λ q. q) t)) i
+true_no_lock decls ms y h (Some (n, field_member x)) is f i = of_reason_if decls (member_has_type decls (field_member x)) WrongType y.span.start f (λ t. for_type (fault.no_lock_listed h is (λ q. q) t)) i
+
+module _ (decls : List Decl) (limits : BodyLimits) (s : Section) (h : HasBody decls limits s) where
+  true_lock_in : (c : ClassName) → Has s.listed c → (o : Option (ℕ × Decl)) → the_decl decls c.structure.text ≡ o →
+      (f : Finding) → IsOneOf f (no_lock_in decls o c.lock) → IsTrue_of decls f
+  true_lock_in c b None is f i = absurd i
+  true_lock_in c b (Some (n, struct r)) is f i = true_no_lock decls r.members c.lock (lists_lock h b is) (the_member r.members c.lock.text) refl f i
+  true_lock_in c b (Some (n, lock x)) is f i = absurd i
+  true_lock_in c b (Some (n, global v)) is f i = absurd i
+  true_lock_in c b (Some (n, array a)) is f i = absurd i
+  true_lock_in c b (Some (n, pool p)) is f i = absurd i
+  true_lock_in c b (Some (n, init j)) is f i = absurd i
+  true_lock_in c b (Some (n, atomic x)) is f i = absurd i
+  true_lock_in c b (Some (n, helper x)) is f i = absurd i
+  true_lock_in c b (Some (n, thread t)) is f i = absurd i
+
+  true_class_again : (before rest : List ClassName) (c : ClassName) → s.listed ≡ before ++ c ∷ rest → (o : Option ℕ) →
+      place_of same_class before c ≡ o → (f : Finding) → IsOneOf f (again c.structure.span.start o) → IsTrue_of decls f
+  true_class_again before rest c parts None e f i = absurd i
+  true_class_again before rest c parts (Some k) e f i = of_one decls DeclaredTwice tt c.structure.span.start f (declared_twice (fault.two_classes before rest c h parts e)) i
+
+  true_listed : (before cs : List ClassName) → s.listed ≡ before ++ cs → ((c : ClassName) → Has cs c → Has s.listed c) →
+      (f : Finding) → IsOneOf f (listed_faults decls before cs) → IsTrue_of decls f
+  true_listed before [] parts up f i = absurd i
+  true_listed before (c ∷ cs) parts up f i =
+      let a = type_faults (outside decls) (ref_type c.structure) in
+      let b = no_lock_in decls (the_decl decls c.structure.text) c.lock in
+      let d = again c.structure.span.start (place_of same_class before c) in
+      both f ((a ++ b) ++ d) (listed_faults decls (before ++ c ∷ []) cs)
+      (both f (a ++ b) d
+      (both f a b
+      (true_type decls (outside decls) (ref_type c.structure) (of_listed h (up c first)) f)
+      (true_lock_in c (up c first) (the_decl decls c.structure.text) refl f))
+      (true_class_again before cs c parts (place_of same_class before c) refl f))
+      (true_listed (before ++ c ∷ []) cs (parts ∙ sym (append_assoc before (c ∷ []) cs)) (λ x g. up x (further g)) f) i
+
 pub true_section : (decls : List Decl) (limits : BodyLimits) (s : Section) → HasBody decls limits s → (f : Finding) →
     IsOneOf f (section_faults decls limits s) → IsTrue_of decls f
 true_section decls limits s h f i =
-    both f (result_faults decls s.result ++ param_faults (ahead_of decls limits s) 0 s.params) (stmts_faults (entry decls limits s) s.body.stmts)
-    (both f (result_faults decls s.result) (param_faults (ahead_of decls limits s) 0 s.params)
+    let a = result_faults decls s.result in
+    let b = param_faults (ahead_of decls limits s) 0 s.params in
+    let c = stmts_faults (entry decls limits s) s.body.stmts in
+    both f (a ++ b ++ c) (listed_faults decls [] s.listed)
+    (both f (a ++ b) c
+    (both f a b
     (true_result decls limits s h s.result refl f)
     (true_params decls limits s h [] s.params 0 refl refl (λ p x. x) f))
-    (true_stmts decls (entry decls limits s) s.body.stmts (λ sc x a. in_body h a) (entered_decls (ahead_of decls limits s) s.params) f) i
+    (true_stmts decls (entry decls limits s) s.body.stmts (λ sc x a. in_body h a) (entered_decls (ahead_of decls limits s) s.params) f))
+    (true_listed decls limits s h [] s.listed refl (λ x g. g) f) i

@@ -272,7 +272,7 @@ module _ (decls : List Decl) (p : core.Program) (sound : Sound decls p) (helpers
   result_good types (one_result {u = u} is) h = h u is
 
   section_good : {s : Section} {x : core.Section} → TypesSection decls limits s x → SectionOk p x
-  section_good {s = s} (types_section {locals = locals} {r = r} b q ls) =
+  section_good {s = s} (types_section {locals = locals} {r = r} b q l ls) =
       let good = body_good decls p (types_of locals) sound helpers b (entered_decls (ahead_of decls limits s) s.params)
       (locals_have ls) in
       record {

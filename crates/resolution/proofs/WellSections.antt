@@ -222,18 +222,19 @@ module _ (decls : List Decl) (limits : BodyLimits) (s : Section) (xs : List core
           sym (ap (λ (y : scopes.Local). y.kind) o)
           ∙ parameters_entered (ahead_of decls limits s) s.params (λ j m g. cc) k at.0 at.1
 
-  scoped_put : {block : core.Stmts} {r : Option core.Return} (t : Option core_type.ValueType) →
+  scoped_put : {block : core.Stmts} {r : Option core.Return} (t : Option core_type.ValueType) (classes : List ℕ) →
       TypesBody sc s.body.stmts block r →
       ScopedOk (record {
         name = s.name.text;
         parameters = length s.params;
         locals = xs;
         result_type = t;
+        listed = classes;
         body =
             block;
         result = r;
       })
-  scoped_put {block = block} {r = r} t b =
+  scoped_put {block = block} {r = r} t classes b =
       let h = body_done xs b (numbers_from 0 (length sc.locals)) (numbers_cover sc.locals) becomes in
       let len = locals_length are in
       record {
@@ -256,8 +257,8 @@ module _ (decls : List Decl) (limits : BodyLimits) (s : Section) (xs : List core
 section_scoped : {decls : List Decl} {limits : BodyLimits} {s : Section} {x : core.Section} →
     TypesSection decls limits s x →
     ScopedOk x
-section_scoped {decls = decls} {limits = limits} {s = s} (types_section {locals = locals} {t = t} b q ls) =
-    scoped_put decls limits s locals ls t b
+section_scoped {decls = decls} {limits = limits} {s = s} (types_section {locals = locals} {t = t} {classes = classes} b q l ls) =
+    scoped_put decls limits s locals ls t classes b
 
 view_length : (ls : List the_local.Local) → length (locals_view ls) ≡ length ls
 view_length [] = refl

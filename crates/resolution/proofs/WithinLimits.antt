@@ -28,7 +28,8 @@ use Rattle.resolution.specs.Expressions.{want}
 use Rattle.resolution.specs.Statements.{after, after_else, after_all, ahead_of, entry}
 use Rattle.resolution.specs.Working.FaultLists.{one_if, local_faults, type_faults, wanted_faults, binding_faults}
 use Rattle.resolution.specs.Working.FaultLists.{owner_faults, helper_call_faults, given_back_faults, stmt_faults}
-use Rattle.resolution.specs.Working.FaultLists.{else_faults, stmts_faults, param_faults, result_faults, count_faults}
+use Rattle.resolution.specs.Working.FaultLists.{else_faults, stmts_faults, param_faults, result_faults, listed_faults}
+use Rattle.resolution.specs.Working.FaultLists.{section_faults, count_faults}
 use Rattle.resolution.specs.Working.FaultLists.{total_faults}
 use Rattle.resolution.specs.declared.wanted.Want.TheVariants as wanted
 use Rattle.resolution.specs.Tables.{AreTables, AreCalls, no_call, one_call, repeated, copies}
@@ -353,7 +354,8 @@ section_within decls clean whole is k x e =
     let a = result_faults decls s.result in
     let b = param_faults (ahead_of decls section_limits s) 0 s.params in
     let c = stmts_faults (entry decls section_limits s) s.body.stmts in
-    let none : NoneIn (a ++ b ++ c) = λ f i. clean f (of_place_at decls at.place (atomic s) at.at f i) in
+    let whole : NoneIn (section_faults decls section_limits s) = λ f i. clean f (of_place_at decls at.place (atomic s) at.at f i) in
+    let none = none_left (a ++ b ++ c) (listed_faults decls [] s.listed) whole in
     let few : 0 + length s.params ≤ PARAMETER_LIMIT = parameters_few (ahead_of decls section_limits s) 0 s.params (none_right a b (none_left (a ++ b) c none)) (let z : 0 ≤ PARAMETER_LIMIT = omega arith in z) in
     let start = entered_length (ahead_of decls section_limits s) s.params in
     let same : (entry decls section_limits s).limits ≡ section_limits = entered_limits (ahead_of decls section_limits s) s.params in

@@ -86,12 +86,13 @@ pub record Local : Type 0 where
   pub kind : LocalKind
   pub value_type : ValueType
 
--- a section or a helper
+-- a section or a helper, with the lock classes that it takes whole
 pub record Section : Type 0 where
   pub name : List ℕ
   pub parameters : ℕ
   pub locals : List Local
   pub result_type : Option ValueType
+  pub listed : List ℕ
   pub body : Stmts
   pub result : Option Return
 

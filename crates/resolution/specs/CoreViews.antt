@@ -127,6 +127,7 @@ core_section x = record {
   parameters = x.parameters;
   locals = core_locals x.locals.items;
   result_type = x.result_type;
+  listed = x.listed.items;
   body = core_stmts x.body.items;
   result = option_map core_return x.result;
 }

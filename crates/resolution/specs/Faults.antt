@@ -22,7 +22,8 @@ use Rattle.syntax.specs.Trees.{Ident, ref_type, Const, int_const, negative, null
 use Rattle.syntax.specs.Trees.{element, path, Expr, int, null, place, paren, prefix, chain, compare, Links, Owner}
 use Rattle.syntax.specs.Trees.{HelperCall, CalledLocal, let_owned, let_call, assign, Protection, Member, lock_member}
 use Rattle.syntax.specs.Trees.{final_member, field_member, Struct, Field, Final, Variable, Array, Pool, Init, Param}
-use Rattle.syntax.specs.Trees.{Section, Call, Decl, lock, struct, global, array, pool, init, atomic, helper, thread}
+use Rattle.syntax.specs.Trees.{ClassName, Section, Call, Decl, lock, struct, global, array, pool, init, atomic}
+use Rattle.syntax.specs.Trees.{helper, thread}
 use Rattle.core_lang.specs.declared.value.ValueType as core_type
 use Rattle.core_lang.specs.declared.value.ValueType.TheVariants.{Integer, Reference}
 use Rattle.core_lang.specs.declared.tree.FieldStep.{FieldStep}
@@ -45,7 +46,7 @@ use Rattle.resolution.specs.Limits.{SECTION_LIMIT, THREAD_LIMIT, CALL_LIMIT}
 use Rattle.resolution.specs.Scopes.{Scope, Local, Meaning, a_local, a_decl, nothing, meaning, helper_meant, place_of}
 use Rattle.resolution.specs.Scopes.{count, declared, bears, the_decl, alike, has_body, the_struct, member_name}
 use Rattle.resolution.specs.Scopes.{member_bears, the_member, the_local, has_type, member_has_type, type_of, result_of}
-use Rattle.resolution.specs.Scopes.{struct_named}
+use Rattle.resolution.specs.Scopes.{struct_named, same_class}
 use Rattle.resolution.specs.Numbers.{is_lock, total, classes_of, objects_of, cells_of, calls_of}
 use Rattle.resolution.specs.Expressions.{ResolvedExpr, value, truth, fits, fits_type, fits_sort, alike_sorts}
 use Rattle.resolution.specs.Expressions.{operator_of, Walk, reached, at_lock, walk_from, IsEquality, IsOfNumbers}
@@ -57,7 +58,7 @@ use Rattle.resolution.specs.Annotations.{AnnotationCursor, through_member, curso
 use Rattle.core_lang_helpers.specs.Faults.{IsGraphFault}
 use Rattle.resolution.specs.CallGraphs.{tree_graph}
 use Rattle.resolution.specs.Where.{Has, HasLink, HasBody, HasStmt, HasHelperCall, HasExpr, HasPlace, Binds, HasType}
-use Rattle.resolution.specs.Where.{NamesOwner, HasCall, HasConst, HasLock, Annotates}
+use Rattle.resolution.specs.Where.{NamesOwner, ListsLock, HasCall, HasConst, HasLock, Annotates}
 
 -- ---- where expressions and constants start
 
@@ -89,7 +90,8 @@ pub data IsTooLarge (decls : List Decl) : ℕ → Type 0 where
   negative_constant : {w : Want} (sign : Span) {n : Number} →
       HasConst decls w (negative sign n) → NUMBER_LIMIT < n.value → IsTooLarge decls n.span.start
 
--- ---- E05: the later of two equal names of one name space; a local with an earlier local's or a top-level name
+-- ---- E05: the later of two equal names of one name space, or of two equal lock classes that a section lists; a local
+-- with an earlier local's or a top-level name
 
 -- a name is declared twice
 pub data IsDeclaredTwice (decls : List Decl) : ℕ → Type 0 where
@@ -101,6 +103,9 @@ pub data IsDeclaredTwice (decls : List Decl) : ℕ → Type 0 where
       place_of member_bears before (member_name m).text ≡ Some i → IsDeclaredTwice decls (member_name m).span.start
   two_locals : {sc : Scope} {x : Ident} {f : ℕ × Local} →
       Binds decls sc x → the_local sc.locals x.text ≡ Some f → IsDeclaredTwice decls x.span.start
+  two_classes : {limits : BodyLimits} {s : Section} (before behind : List ClassName) (c : ClassName) {i : ℕ} →
+      HasBody decls limits s → s.listed ≡ before ++ c ∷ behind → place_of same_class before c ≡ Some i →
+      IsDeclaredTwice decls c.structure.span.start
   top_level : {sc : Scope} {x : Ident} {f : ℕ × Decl} →
       Binds decls sc x → the_decl decls x.text ≡ Some f → IsDeclaredTwice decls x.span.start
 
@@ -167,6 +172,8 @@ pub data IsUnknown (decls : List Decl) : ℕ → Type 0 where
       NamesOwner decls ms f → the_member ms f.text ≡ None → IsUnknown decls f.span.start
   no_owner : {sc : Scope} {l : tree.Local} {o : Owner} →
       HasStmt decls sc (let_owned l o) → meaning sc o.local.text ≡ nothing → IsUnknown decls o.local.span.start
+  no_member_listed : {ms : List Member} {x : Ident} →
+      ListsLock decls ms x → the_member ms x.text ≡ None → IsUnknown decls x.span.start
   no_lock : {p : Protection} →
       NamesGlobal decls p → the_decl decls p.first.text ≡ None → IsUnknown decls p.first.span.start
   no_field_passed : {p : Protection} {st : AnnotationCursor} {y : Ident} {ys : List Ident} →
@@ -275,6 +282,9 @@ pub data IsWrongType (decls : List Decl) : ℕ → Why → Type 0 where
   not_final : {ms : List Member} {f : Ident} {i : ℕ} {g : Field} →
       NamesOwner decls ms f → the_member ms f.text ≡ Some (i, field_member g) →
       member_has_type decls (field_member g) ≡ true → IsWrongType decls f.span.start why.OwnerField
+  no_lock_listed : {ms : List Member} {x : Ident} {i : ℕ} {m : Member} →
+      ListsLock decls ms x → the_member ms x.text ≡ Some (i, m) → (IsLockMember m → ⊥) →
+      member_has_type decls m ≡ true → IsWrongType decls x.span.start why.ListedMember
   number_owned : {sc : Scope} {l : tree.Local} {o : Owner} →
       HasStmt decls sc (let_owned l o) → type_of sc l.value_type ≡ Some Integer →
       IsWrongType decls o.field.span.start why.OwnedInt

@@ -1,10 +1,10 @@
 -- What names refer to.
 use Rattle.std.specs.Prelude.{ℕ, zero, suc, List, [], ◌∷◌, ◌++◌, take, length, Option, Some, None, is_some, Bool}
-use Rattle.std.specs.Prelude.{true, false, slice_get, if◌then◌else◌}
+use Rattle.std.specs.Prelude.{true, false, slice_get, ◌&&◌, if◌then◌else◌}
 use Rattle.std.specs.Str.{bytes_eq}
 use Rattle.syntax.specs.Trees.{Ident, Decl, lock, struct, global, array, pool, init, atomic, helper, thread}
 use Rattle.syntax.specs.Trees.{ValueType, int_type, ref_type, Member, lock_member, final_member, field_member, Struct}
-use Rattle.syntax.specs.Trees.{Param, Section}
+use Rattle.syntax.specs.Trees.{Param, ClassName, Section}
 use Rattle.core_lang.specs.declared.value.ValueType as core_type
 use Rattle.core_lang.specs.declared.value.ValueType.TheVariants.{Integer, Reference}
 use Rattle.core_lang.specs.declared.tree.LocalKind.{LocalKind}
@@ -123,6 +123,10 @@ members_alike _ _ = false
 -- the number of a member: how many of its kind come before it
 abbrev pub number_in : List Member → ℕ → Member → ℕ
 number_in ms i m = count (members_alike m) (take i ms)
+
+-- both lock classes have the same names of struct and lock
+abbrev pub same_class : ClassName → ClassName → Bool
+same_class c d = bytes_eq c.structure.text d.structure.text && bytes_eq c.lock.text d.lock.text
 
 -- ---- locals
 

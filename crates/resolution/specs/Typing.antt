@@ -14,7 +14,8 @@ use Rattle.syntax.specs.Trees.{Ident, ref_type, Place, lone, element, path, Expr
 use Rattle.syntax.specs.Trees.{chain, compare, Links, no_links, link, Owner, HelperCall, CalledLocal, Stmt, let_local}
 use Rattle.syntax.specs.Trees.{let_owned, let_call, var_local, assign, if_then, while, print, return_value, call}
 use Rattle.syntax.specs.Trees.{Stmts, no_stmts, stmt, no_else, else_do, Param, Section, Decl, global, array, pool}
-use Rattle.syntax.specs.Trees.{helper, Struct, Member, Final, final_member, Variable, Array, Pool}
+use Rattle.syntax.specs.Trees.{helper, Struct, struct, Member, Final, lock_member, final_member, Variable, Array}
+use Rattle.syntax.specs.Trees.{Pool, ClassName}
 use Rattle.core_lang.specs.declared.value.ValueType.{ValueType}
 use Rattle.core_lang.specs.declared.value.ValueType.TheVariants.{Integer, Reference}
 use Rattle.core_lang.specs.declared.tree.Operator.{Operator}
@@ -29,7 +30,8 @@ use Rattle.resolution.specs.declared.wanted.Want.TheVariants.{Value}
 use Rattle.resolution.specs.Core as core
 use Rattle.resolution.specs.Limits.{STRUCT_LIMIT}
 use Rattle.resolution.specs.Scopes.{Scope, Local, outside, a_local, a_decl, meaning, number_at, the_struct, the_member}
-use Rattle.resolution.specs.Scopes.{type_of, result_of, struct_named, left}
+use Rattle.resolution.specs.Scopes.{type_of, result_of, struct_named, left, the_decl, number_in}
+use Rattle.resolution.specs.Annotations.{class_number}
 use Rattle.resolution.specs.Expressions.{ResolvedExpr, value, truth, fits_sort, alike_sorts, want, cell_of, local_path}
 use Rattle.resolution.specs.Expressions.{member_number, reached, walk_from, marked, operator_of, comparison_of}
 use Rattle.resolution.specs.Expressions.{IsOfNumbers, IsEquality}
@@ -213,11 +215,25 @@ pub data TypesResult (decls : List Decl) : Option tree.ValueType → Option core
   one_result : {t : tree.ValueType} {r : core.Return} {u : ValueType} →
       type_of (outside decls) t ≡ Some u → TypesResult decls (Some t) (Some r) (Some u)
 
+-- the lock class of this name: a lock field of a struct
+pub data NamesClass (decls : List Decl) : ClassName → ℕ → Type 0 where
+  names_class : {c : ClassName} {i j : ℕ} {s : Struct} {x : Ident} →
+      the_decl decls c.structure.text ≡ Some (i, struct s) →
+      the_member s.members c.lock.text ≡ Some (j, lock_member x) →
+      NamesClass decls c (class_number decls i (number_in s.members j (lock_member x)))
+
+-- the listed lock classes, one for each name
+pub data TypesListed (decls : List Decl) : List ClassName → List ℕ → Type 0 where
+  no_class : TypesListed decls [] []
+  one_class : {c : ClassName} {n : ℕ} {cs : List ClassName} {ns : List ℕ} →
+      NamesClass decls c n → TypesListed decls cs ns → TypesListed decls (c ∷ cs) (n ∷ ns)
+
 -- a section or a helper, with its limits of parameters and locals
 pub data TypesSection (decls : List Decl) (limits : BodyLimits) : Section → core.Section → Type 0 where
   types_section : {s : Section} {locals : List core.Local} {stmts : core.Stmts} {r : Option core.Return}
-      {t : Option ValueType} →
+      {t : Option ValueType} {classes : List ℕ} →
       TypesBody (entry decls limits s) s.body.stmts stmts r → TypesResult decls s.result r t →
+      TypesListed decls s.listed classes →
       TypesLocals (after_all (entry decls limits s) s.body.stmts).locals locals →
       TypesSection decls limits s
       (record {
@@ -225,6 +241,7 @@ pub data TypesSection (decls : List Decl) (limits : BodyLimits) : Section → co
         parameters = length s.params;
         locals = locals;
         result_type = t;
+        listed = classes;
         body = stmts;
         result = r;
       })

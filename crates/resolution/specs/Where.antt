@@ -13,8 +13,9 @@ use Rattle.syntax.specs.Trees.{Ident, ValueType, ref_type, Const, Place, element
 use Rattle.syntax.specs.Trees.{compare, Links, link, Local, Owner, HelperCall, CalledLocal, Stmt, let_local}
 use Rattle.syntax.specs.Trees.{let_owned, let_call, var_local, assign, if_then, while, print, return_value, Stmts}
 use Rattle.syntax.specs.Trees.{stmt, Otherwise, else_do, Protection, Final, Field, Member, final_member, field_member}
-use Rattle.syntax.specs.Trees.{Struct, Variable, Array, Pool, Init, Param, Section, Call, Item, call, repeat, Items}
-use Rattle.syntax.specs.Trees.{item, Thread, Decl, struct, global, array, pool, init, atomic, helper, thread}
+use Rattle.syntax.specs.Trees.{Struct, Variable, Array, Pool, Init, Param, ClassName, Section, Call, Item, call}
+use Rattle.syntax.specs.Trees.{repeat, Items, item, Thread, Decl, struct, global, array, pool, init, atomic, helper}
+use Rattle.syntax.specs.Trees.{thread}
 use Rattle.core_lang.specs.declared.value.ValueType as core_type
 use Rattle.core_lang.specs.declared.value.ValueType.TheVariants.{Integer, Reference}
 use Rattle.resolution.specs.declared.wanted.Want.{Want}
@@ -160,7 +161,7 @@ pub data Binds (decls : List Decl) : Scope → Ident → Type 0 where
   a_called_let : {sc : Scope} {l : CalledLocal} → HasStmt decls sc (let_call l) → Binds decls sc l.name
   a_var : {sc : Scope} {l : Local} → HasStmt decls sc (var_local l) → Binds decls sc l.name
 
--- a type of the program, in its scope
+-- a type of the program, in its scope; the struct's name of a listed lock class counts as one
 pub data HasType (decls : List Decl) : Scope → ValueType → Type 0 where
   of_global : {v : Variable} → Has decls (global v) → HasType decls (outside decls) v.value_type
   of_array : {a : Array} → Has decls (array a) → HasType decls (outside decls) a.value_type
@@ -173,6 +174,8 @@ pub data HasType (decls : List Decl) : Scope → ValueType → Type 0 where
       HasBody decls limits x → Has x.params p → HasType decls (outside decls) p.value_type
   of_result : {limits : BodyLimits} {x : Section} {t : ValueType} →
       HasBody decls limits x → x.result ≡ Some t → HasType decls (outside decls) t
+  of_listed : {limits : BodyLimits} {x : Section} {c : ClassName} →
+      HasBody decls limits x → Has x.listed c → HasType decls (outside decls) (ref_type c.structure)
   of_a_let : {sc : Scope} {l : Local} → HasStmt decls sc (let_local l) → HasType decls sc l.value_type
   of_an_owned_let : {sc : Scope} {l : Local} {o : Owner} → HasStmt decls sc (let_owned l o) →
       HasType decls sc l.value_type
@@ -184,6 +187,12 @@ pub data NamesOwner (decls : List Decl) : List Member → Ident → Type 0 where
   names_owner : {sc : Scope} {l : Local} {o : Owner} {k : ℕ} {s : Struct} →
       HasStmt decls sc (let_owned l o) → type_of sc l.value_type ≡ Some (Reference k) → the_struct decls k ≡ Some s →
       NamesOwner decls s.members o.field
+
+-- the lock's name of a listed lock class, whose struct has these members
+pub data ListsLock (decls : List Decl) : List Member → Ident → Type 0 where
+  lists_lock : {limits : BodyLimits} {x : Section} {c : ClassName} {i : ℕ} {s : Struct} →
+      HasBody decls limits x → Has x.listed c → the_decl decls c.structure.text ≡ Some (i, struct s) →
+      ListsLock decls s.members c.lock
 
 -- ---- threads and constants
 

@@ -74,6 +74,8 @@ pub enum Why {
     OwnedInt,
     /// A `where` needs a final reference, and the field can change.
     OwnerField,
+    /// A lock class needs a lock of its struct, and the member is none.
+    ListedMember,
     /// A name is expected to refer to the first, and refers to the second.
     Misnamed(Role, Referent),
     /// A field of an `int` is named.

@@ -1,9 +1,10 @@
 use Rattle.std.specs.Prelude.{◌≡◌, ◌≢◌, ◌+◌, ◌<◌, ◌≤◌, ℕ, zero, suc, Bool, true, false, nat_eq, if◌then◌else◌, List, []}
-use Rattle.std.specs.Prelude.{◌∷◌, ◌++◌, length, drop, get_or, slice_get, Option, Some}
+use Rattle.std.specs.Prelude.{◌∷◌, ◌++◌, length, drop, slice_get, Option, Some}
 use Rattle.std.specs.List.{Contains, sum_by}
 use Rattle.std.proofs.Common.{refl, sym, ap, ◌∙◌, subst, arith, eqb-true, length-append}
 use Rattle.std.proofs.lemmas.List.Elements.{Contains-append_right, Contains-get_or}
 use Rattle.std.proofs.lemmas.List.{length-map}
+use Rattle.std.proofs.lemmas.Option.{same_Some}
 use Rattle.std.proofs.lemmas.List.Sums.{sum_by-append, sum_by-cons}
 use Rattle.core_lang.specs.declared.value.Value.{Value}
 use Rattle.core_lang.specs.declared.value.ValueType.{ValueType}
@@ -36,9 +37,10 @@ pub record IsAsking (o : OpenOf) (lock : Lock) (rest : List Lock) : Type 0 where
   pub is_open : IsOpen o
   pub pending : o.activation.pending ≡ lock ∷ rest
 
-pub first_and_rest : (xs : List Lock) (x : Lock) → xs ≢ [] → x ≡ get_or xs 0 x → xs ≡ x ∷ drop 1 xs
+pub first_and_rest : (xs : List Lock) (x : Lock) → xs ≢ [] → slice_get xs 0 ≡ Some x →
+    xs ≡ x ∷ drop 1 xs
 first_and_rest [] x some is = absurd (some refl)
-first_and_rest (y ∷ ys) x some is = ap (λ (z : Lock). z ∷ ys) (sym is)
+first_and_rest (y ∷ ys) x some is = ap (λ (z : Lock). z ∷ ys) (same_Some y x is)
 
 -- ---- the section may ask for the lock
 

@@ -1,5 +1,4 @@
 use Rattle.std.specs.Prelude.{◌≡◌, ◌<◌, ◌≤◌, ℕ, zero, suc, List, [], ◌∷◌, length, take, get_or, slice_get, Option, Some}
-use Rattle.std.specs.Prelude.{vec_capacity}
 use Rattle.std.proofs.lemmas.List.{length-map}
 use Rattle.std.specs.Option.{option_map_or}
 use Rattle.std.proofs.Common.{refl, sym, ap, ◌∙◌, subst, arith}
@@ -69,15 +68,15 @@ few_arguments plan number arguments compiled can =
 -- the section as it begins
 pub as_begun : (plan : Plan) (b : SectionFrame) (ticket : TicketOf) (step : ℕ) → IsBeginning plan b →
     ticket.session ≡ fresh ticket.session.begun b.room →
-    open_as plan ticket step (its_call b) b.machine b.pending.items b.asked
+    open_as plan ticket step (its_call b) b.machine b.pending.locks b.asked
     ≡ begun_as plan ticket.thread step b.room ticket.session.begun (its_call b)
 as_begun plan b ticket step p is =
     λ i. open_as plan (record { thread = ticket.thread; session = is i }) step (its_call b) (p.run_is i) (p.none_pending i) (p.not_asked i)
 
 pub kept_at_first : (plan : Plan) (b : SectionFrame) (ticket : TicketOf) (step : ℕ) → SectionsStayInOrder → IsBeginning plan b →
     ticket.session ≡ fresh ticket.session.begun b.room →
-    IsKeptOpen (open_as plan ticket step (its_call b) b.machine b.pending.items b.asked) ticket b.machine
-    (vec_capacity b.pending)
+    IsKeptOpen (open_as plan ticket step (its_call b) b.machine b.pending.locks b.asked) ticket b.machine
+    b.pending.room
 kept_at_first plan b ticket step laws p is =
     let call = its_call b in
     let room = b.room in
@@ -87,7 +86,7 @@ kept_at_first plan b ticket step laws p is =
       in_order = laws.begins plan ticket.session.begun call p.compiled p.fits;
       room = p.room_is;
     } in
-    let asks_nothing_yet : ticket.session.ask ≡ first_if b.asked b.pending.items =
+    let asks_nothing_yet : ticket.session.ask ≡ first_if b.asked b.pending.locks =
     ap (λ (s : SessionOf). s.ask) is ∙ sym (λ i. first_if (p.not_asked i) (p.none_pending i)) in
     let none : ticket.session.held ≡ [] = ap (λ (s : SessionOf). s.held) is in
     let its_room : ticket.session.room ≡ room = ap (λ (s : SessionOf). s.room) is in

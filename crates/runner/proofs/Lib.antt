@@ -3,6 +3,8 @@ pub mod Opened
 pub mod Begun
 pub mod Asks
 pub mod Endings
+pub mod Falling
 pub mod Along
 pub mod Same
 pub mod Parts
+pub mod Taken

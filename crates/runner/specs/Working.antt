@@ -2,6 +2,7 @@
 -- files: no promise cites them.
 pub mod Asked
 pub mod Opens
+pub mod Pending
 pub mod Ties
 pub mod Answers
 pub mod Laws

@@ -1,15 +1,16 @@
 //! The state of an open section, in one block that its thread keeps from one section to the next.
 
-ghost use Rattle.std.specs.Prelude.{◌≡◌, ◌≤◌, [], OnOk, IfOk, vec_capacity};
+ghost use Rattle.std.specs.Prelude.{◌≡◌, [], OnOk, IfOk};
 ghost use Rattle.core_lang.specs.WellFormed.{CanCall};
 ghost use Rattle.runner.specs.Working.Ties.{IsBeginning, its_call, entry_in};
 
 use crate::opening::{opening_locals, refill};
+use crate::pending::Pending;
 use core_lang::value::{Outcome, Value};
 use history::kept::EntryRef;
 use layout::room::Room;
 use lock_manager::ticket::Ticket;
-use locks::lock::Lock;
+use locks::path_set::PathSet;
 use lowering::compiled::Program;
 use moved_cells::grant::Grant;
 use runner_machine::machine::StackMachine;
@@ -24,7 +25,9 @@ pub(crate) struct SectionFrame<'p> {
     pub(crate) arguments: Vec<Value>,
     pub(crate) room: Room,
     pub(crate) machine: StackMachine<'p>,
-    pub(crate) pending: Vec<Lock>,
+    pub(crate) pending: Pending,
+    // The lock paths of whole classes whose locks the section holds, or has yet to be granted.
+    pub(crate) taken: PathSet,
     pub(crate) asked: bool,
     // After the end: how the section ended, and its grants, which are the machine's before.
     pub(crate) outcome: Outcome,
@@ -51,9 +54,10 @@ impl<'p> SectionFrame<'p> {
         let room = program.room(section);
         self.section = section;
         self.room = room;
+        self.taken = PathSet::new();
         self.asked = false;
         refill(&mut self.arguments, arguments)?;
-        empty_for(room.locks, &mut self.pending)?;
+        self.pending.empty_for(room.locks)?;
         let memory = self.machine.take_locals(self.alloc);
         let locals = opening_locals(called, arguments, memory)?;
         self.machine.renew(locals, program.layout(), room)?;
@@ -79,16 +83,6 @@ impl<'p> SectionFrame<'p> {
     }
 }
 
-// Empties `locks`, and makes room for `room` locks. Errors: out of memory.
-fn empty_for(room: usize, locks: &mut Vec<Lock>) -> Result<(), NoMemory>
-    ensures none { locks.new.items ≡ [] }
-    ensures room { OnOk result (room ≤ vec_capacity locks.new) }
-{
-    locks.clear();
-    locks.reserve(room)?;
-    Ok(())
-}
-
 /// A block that no section uses. It has no grants, and its other contents don't matter.
 pub(crate) struct Memory<'p> {
     pub(crate) body: Box<SectionFrame<'p>>,
@@ -112,7 +106,8 @@ impl<'p> Memory<'p> {
                 locals: 0,
             },
             machine,
-            pending: Vec::new(alloc),
+            pending: Pending::new(alloc),
+            taken: PathSet::new(),
             asked: false,
             outcome: Outcome::Ends,
             grants: Vec::new(alloc),
@@ -176,6 +171,7 @@ fn let_go(body: SectionFrame<'_>)
         room: _,
         machine,
         pending: _,
+        taken: _,
         asked: _,
         outcome: _,
         grants,

@@ -4,14 +4,14 @@
 //! - [`states::Ready`], [`states::Running`], [`states::Asking`], [`states::Ended`]: a thread by its next step.
 //! - [`laws`]: when the cells of an open section stay part of a heap.
 //!
-//! `specs/` defines open sections and the effect of their calls (`Opens`, `Answers`). `Asked` and `Ties` only say what
-//! the code relies on; nobody has to believe them. The machine of an open section is `runner_machine`'s.
+//! `specs/` defines open sections and the effect of their calls (`Opens`, `Answers`). `Asked`, `Pending` and `Ties` only
+//! say what the code relies on; nobody has to believe them. The machine of an open section is `runner_machine`'s.
 #![tactic(auto)]
 
 mod asker;
-mod asking;
 mod body;
 pub mod laws;
 mod open;
 mod opening;
+mod pending;
 pub mod states;

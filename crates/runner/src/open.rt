@@ -7,7 +7,6 @@ ghost use Rattle.runner.specs.Working.Opens.{moved};
 ghost use Rattle.runner.specs.Working.Ties.{effect_on, HasMoved};
 
 use crate::asker::Asker;
-use crate::asking::take_first;
 use crate::body::{Memory, SectionFrame};
 use crate::states::Ready;
 use code::instr::Instr;
@@ -32,9 +31,9 @@ impl<'p> Model for Open<'p> {
     ghost use Rattle.core_lang.specs.contracts.tree.Expr as expr;
     ghost use Rattle.core_lang.specs.contracts.tree.Condition as condition;
     ghost use Rattle.std.specs.Coded.{codes};
-    ghost use Rattle.std.specs.Prelude.{◌≡◌, [], vec_capacity};
+    ghost use Rattle.std.specs.Prelude.{◌≡◌, []};
     ghost use Rattle.runner.specs.Working.Opens.{OpenOf};
-    ghost use Rattle.runner.specs.Working.Ties.{open_in, IsKeptOpen};
+    ghost use Rattle.runner.specs.Working.Ties.{open_in, IsKeptOpen, AreTakenIn};
 
     ghost Value = { OpenOf };
 
@@ -43,8 +42,9 @@ impl<'p> Model for Open<'p> {
     ghost view = { λ o. open_in o.program.now o.ticket o.body.value };
 
     ghost invariant = { λ o.
-        IsKeptOpen (open_in o.program.now o.ticket o.body.value) o.ticket o.body.value.machine (vec_capacity o.body.value.pending)
-        × (o.body.value.grants.items ≡ []) };
+        IsKeptOpen (open_in o.program.now o.ticket o.body.value) o.ticket o.body.value.machine o.body.value.pending.room
+        × (o.body.value.grants.items ≡ [])
+        × AreTakenIn o.program.now o.ticket o.body.value };
 }
 
 impl<'p> Open<'p> {
@@ -73,10 +73,10 @@ impl<'p> Open<'p> {
         let asker = Asker {
             program: self.program,
             section: body.section,
-            held: self.ticket.held(),
-            locals: body.machine.locals(),
+            machine: &body.machine,
+            taken: body.taken,
         };
-        asker.ask_before(point, &mut body.pending);
+        body.taken = asker.ask_before(point, &mut body.pending);
         body.machine.pass();
         body.asked = false;
     }
@@ -123,12 +123,12 @@ impl<'p> Open<'p> {
         moved_cells::laws::heaps_have_values();
         worlds::laws::sections_stay_in_order();
         manager.keeps_its_rules();
-        let lock = self.body.pending[0];
+        let lock = self.body.pending.first();
         match manager.request(&mut self.ticket, lock) {
             Answer::Granted(grant) => {
                 let body = &mut *self.body;
                 body.machine.grant(grant);
-                take_first(&mut body.pending);
+                body.pending.take_first();
                 body.asked = false;
                 None
             }
@@ -173,7 +173,7 @@ impl<'p> Open<'p> {
         requires { self.now.activation.pending ≢ [] }
         ensures { slice_get self.now.activation.pending 0 ≡ Some result }
     {
-        self.body.pending[0]
+        self.body.pending.first()
     }
 
     // Whether the section has asked for the first pending lock.

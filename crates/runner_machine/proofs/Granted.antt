@@ -89,27 +89,6 @@ count_within (h ∷ gs) (suc i) g at = omega (arith, count_within gs i g at)
 
 -- ---- finding
 
-taken_more : (gs : List GrantOf) (i : ℕ) (g : GrantOf) → slice_get gs i ≡ Some g → take (i + 1) gs ≡ take i gs ++ g ∷ []
-taken_more gs i g at =
-    take_more gs i g (slice_get_within gs i g at) ∙ ap (λ (x : GrantOf). take i gs ++ x ∷ []) (get_or_from_slice_get gs i g g at)
-
-pub count_more : (gs : List GrantOf) (i : ℕ) (g : GrantOf) → slice_get gs i ≡ Some g →
-    values_count (take (i + 1) gs) ≡ values_count (take i gs) + length g.values
-count_more gs i g at = ap values_count (taken_more gs i g at) ∙ count_append (take i gs) (g ∷ []) ∙ (let e : values_count (take i gs) + (length g.values + 0) ≡ values_count (take i gs) + length g.values = omega arith in e)
-
-one_contained : (l k : Lock) → Contains (l ∷ []) k → l ≡ k
-one_contained l k (zero, lt, e) = e
-one_contained l k (suc i, lt, e) = absurd (omega (arith, lt))
-
-pub earlier_more : (gs : List GrantOf) (i : ℕ) (g : GrantOf) (lock : Lock) → slice_get gs i ≡ Some g → g.lock ≢ lock →
-    (Contains (locks_of (take i gs)) lock → ⊥) → Contains (locks_of (take (i + 1) gs)) lock → ⊥
-earlier_more gs i g lock at ne earlier has =
-    let e : locks_of (take (i + 1) gs) ≡ locks_of (take i gs) ++ g.lock ∷ [] = ap locks_of (taken_more gs i g at) ∙ locks_append (take i gs) (g ∷ []) in
-    elim (Contains-append_cases (locks_of (take i gs)) (g.lock ∷ []) lock (subst (λ (ls : List Lock). Contains ls lock) e has)) [
-      | inl h ↦ earlier h
-      | inr h ↦ ne (one_contained g.lock lock h)
-    ]
-
 pub whole_at : (cell_locks : List Lock) (gs : List GrantOf) (i : ℕ) (g : GrantOf) → All (IsWhole cell_locks) gs →
     slice_get gs i ≡ Some g → IsWhole cell_locks g
 whole_at cell_locks gs i g whole at =

@@ -1,4 +1,6 @@
+pub mod Appended
 pub mod Granted
+pub mod Holds
 pub mod Lists
 pub mod Locals
 pub mod Noting

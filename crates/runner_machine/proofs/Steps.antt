@@ -4,7 +4,7 @@ use Rattle.std.proofs.Common.{Some, None, refl, sym, ap, ◌∙◌, subst, arith
 use Rattle.std.specs.Prelude.{slice_get}
 use Rattle.std.specs.List.{Contains}
 use Rattle.std.proofs.lemmas.List.Elements.{All-nil, All-set, All-push}
-use Rattle.std.proofs.lemmas.Option.{none-some, get_or_from_slice_get}
+use Rattle.std.proofs.lemmas.Option.{none-some, slice_get_within, get_or_from_slice_get}
 use Rattle.core_lang.specs.declared.value.Value.{Value}
 use Rattle.locks.specs.declared.lock.Lock.{Lock}
 use Rattle.code.specs.Memory.{HeldCells, value_at, with_value, with_changed, noted, read_if_held, write_if_held}
@@ -24,6 +24,9 @@ use Rattle.runner_machine.proofs.Places.{distinct_under, under_append}
 use Rattle.runner_machine.proofs.Granted.{locks_append, count_append, granted_append, append_none, length_locks}
 use Rattle.runner_machine.proofs.Granted.{granted_count, under_count, elsewhere, granted_value, granted_changed, cell_at}
 use Rattle.runner_machine.proofs.Granted.{locks_set, count_set, whole_at}
+use Rattle.runner_machine.specs.declared.held_lock.HeldLock.{HeldLock}
+use Rattle.runner_machine.specs.Working.Finding.{AreHeld}
+use Rattle.runner_machine.proofs.Holds.{held_set}
 use Rattle.core_lang.specs.Theory.Items.{get_some}
 use Rattle.layout.specs.Theory.Numbers.{distinct_push}
 
@@ -154,6 +157,13 @@ module _ (layout : LayoutOf) (gs : List GrantOf) (reads writes : NotesOf) (ls cs
     pub write_fits : Value → number_of writes place cell ≡ None → length writes.list < writes.room
     write_fits v none = one_more_fits writes kept.writes_are kept.writes_room v none
 
+    pub index_within : index < length gs
+    index_within = slice_get_within gs index spot.grant spot.is
+
+    pub offset_within : (g : GrantOf) → g ≡ get_or gs index g → offset < length g.values
+    offset_within g at =
+        subst (λ (h : GrantOf). offset < length h.values) (sym (item_is gs index spot.grant g spot.is at)) spot.offset_fits
+
     pub loaded_written : (g : GrantOf) (v : Value) (k : ℕ) → g ≡ get_or gs index g →
         slice_get g.values offset ≡ Some v →
         number_of writes place cell ≡ Some k → IsLoad old cell (Some v) old
@@ -231,6 +241,11 @@ module _ (layout : LayoutOf) (gs : List GrantOf) (reads writes : NotesOf) (ls cs
         locks_fit = omega (arith, length-set gs index h, kept.locks_fit);
         cells_fit = omega (arith, same_count, kept.cells_fit);
       })
+
+      pub held_stored : (hs : List HeldLock) → AreHeld gs hs → AreHeld (set gs index h) hs
+      held_stored hs are =
+          subst (λ (x : List GrantOf). AreHeld x hs) (sym set_to)
+          (held_set gs hs index spot.grant (set spot.grant.values offset v) are spot.is (length-set spot.grant.values offset v))
 
       pub stored : OffsetsChangeCells → IsStore old cell v true (holding_of layout (set gs index h) reads more ls cs)
       stored change =

@@ -1,17 +1,21 @@
 //! The cells that an open section holds.
 
-ghost use Rattle.std.specs.Prelude.{◌≡◌, ◌<◌, ◌≤◌, [], length, OnOk};
+ghost use Rattle.std.specs.Prelude.{◌≡◌, ◌<◌, ◌≤◌, [], length, OnOk, OnErr, vec_capacity};
 ghost use Rattle.std.specs.List.{All};
+ghost use Rattle.locks.specs.Locks.{among};
 ghost use Rattle.layout.specs.Layouts.{AreDistinct};
 ghost use Rattle.moved_cells.specs.Working.Grants.{IsWhole, locks_of};
+ghost use Rattle.runner_machine.specs.Working.Noted.{AreEmptyNotes};
 ghost use Rattle.runner_machine.specs.Working.Held.{cells_granted, CanHold, no_grants, with_grant, without_grants, IsLoad, IsStore};
 
 use crate::finding::spot_of;
+use crate::held_lock::{HeldLock, find, hold};
 use crate::notes::Notes;
 use core_lang::value::Value;
 use history::kept::CellValue;
 use layout::room::Room;
 use layout::table::Layout;
+use locks::lock::Lock;
 use moved_cells::grant::Grant;
 use moved_cells::laws::slots_are_cells;
 use source::memory::NoMemory;
@@ -24,6 +28,8 @@ use std::mem;
 pub struct Holding<'p> {
     layout: &'p Layout,
     grants: Vec<Grant>,
+    // The lock of each grant, by which the grant is found.
+    held: Vec<HeldLock>,
     // By place, where places are counted grant after grant.
     reads: Notes,
     writes: Notes,
@@ -38,12 +44,16 @@ impl<'p> Model for Holding<'p> {
     ghost Value = { HoldingOf };
 
     ghost use Rattle.runner_machine.specs.Working.Kept.{holding_of, IsKept};
+    ghost use Rattle.runner_machine.specs.Working.Finding.{AreHeld, AreInRuns};
 
     ghost view = { λ h. holding_of h.layout.now h.grants.items h.reads h.writes h.lock_room h.cell_room };
 
     ghost invariant = { λ h.
         IsKept h.layout.now.cell_locks h.grants.items h.reads h.writes h.lock_room h.cell_room
-        × (h.lock_room ≤ vec_capacity h.grants) };
+        × (h.lock_room ≤ vec_capacity h.grants)
+        × (h.lock_room ≤ vec_capacity h.held)
+        × AreHeld h.grants.items h.held.items
+        × AreInRuns h.held.items };
 }
 
 impl<'p> Holding<'p> {
@@ -54,6 +64,7 @@ impl<'p> Holding<'p> {
         Holding {
             layout,
             grants: Vec::new(alloc),
+            held: Vec::new(alloc),
             reads: Notes::new(alloc),
             writes: Notes::new(alloc),
             lock_room: 0,
@@ -75,18 +86,20 @@ impl<'p> Holding<'p> {
         self.layout = layout;
         self.lock_room = 0;
         self.cell_room = 0;
-        if self.grants.reserve(room.locks).is_err()
-            || self.reads.renew(room.cells).is_err()
-            || self.writes.renew(room.cells).is_err()
-        {
-            // Both have the room of the holding, which is empty.
-            self.reads.clear();
-            self.writes.clear();
-            return Err(NoMemory);
-        }
+        self.reads.clear();
+        self.writes.clear();
+        make_room(room.locks, &mut self.grants, &mut self.held)?;
+        renew_notes(room.cells, &mut self.reads, &mut self.writes)?;
         self.lock_room = room.locks;
         self.cell_room = room.cells;
         Ok(())
+    }
+
+    /// Whether `lock` is held.
+    pub fn holds(&self, lock: Lock) -> bool
+        ensures { result ≡ among self.now.locks lock }
+    {
+        find(&self.held, lock).is_some()
     }
 
     /// The value of `cell`, if the cell is held. The read is noted, unless the cell was written.
@@ -95,7 +108,7 @@ impl<'p> Holding<'p> {
         ensures { IsLoad self.old cell result self.new }
     {
         slots_are_cells();
-        match spot_of(self.layout, &self.grants, cell) {
+        match spot_of(self.layout, &self.held, cell) {
             Some(spot) => {
                 let value = self.grants[spot.index].read(spot.offset);
                 match self.writes.number(spot.place, cell) {
@@ -114,7 +127,7 @@ impl<'p> Holding<'p> {
         ensures { IsStore self.old cell value result self.new }
     {
         slots_are_cells();
-        match spot_of(self.layout, &self.grants, cell) {
+        match spot_of(self.layout, &self.held, cell) {
             Some(spot) => {
                 self.grants[spot.index].write(spot.offset, value);
                 self.writes.note(spot.place, cell, value);
@@ -129,6 +142,7 @@ impl<'p> Holding<'p> {
         requires { CanHold self.old grant }
         ensures { self.new ≡ with_grant self.old grant }
     {
+        hold(&mut self.held, grant.lock(), grant.values().len());
         match self.grants.push(grant) {
             Ok(()) => {}
             Err(_) => unreachable!(),
@@ -147,6 +161,7 @@ impl<'p> Holding<'p> {
         ensures writes { 0 < self.old.cell_room → length self.new.memory.writes ≤ self.old.cell_room }
     {
         mem::swap(&mut self.grants, grants);
+        self.held.clear();
         self.reads.finish();
         self.writes.finish();
         self.lock_room = 0;
@@ -176,6 +191,7 @@ impl<'p> Holding<'p> {
         let Holding {
             layout: _,
             grants,
+            held: _,
             reads: _,
             writes: _,
             lock_room: _,
@@ -192,4 +208,29 @@ impl<'p> Holding<'p> {
     {
         let _ = &self.grants;
     }
+}
+
+// Makes room for `room` grants. Errors: out of memory.
+fn make_room(room: usize, grants: &mut Vec<Grant>, held: &mut Vec<HeldLock>) -> Result<(), NoMemory>
+    ensures grants { grants.new.items ≡ grants.old.items }
+    ensures held { held.new.items ≡ held.old.items }
+    ensures grants_room { OnOk result (room ≤ vec_capacity grants.new) }
+    ensures held_room { OnOk result (room ≤ vec_capacity held.new) }
+{
+    grants.reserve(room)?;
+    held.reserve(room)?;
+    Ok(())
+}
+
+// Makes room for notes at `room` places. Errors: out of memory; then neither has room.
+fn renew_notes(room: usize, reads: &mut Notes, writes: &mut Notes) -> Result<(), NoMemory>
+    ensures ok { OnOk result (AreEmptyNotes room reads.new × AreEmptyNotes room writes.new) }
+    ensures err { OnErr result (AreEmptyNotes 0 reads.new × AreEmptyNotes 0 writes.new) }
+{
+    if reads.renew(room).is_err() || writes.renew(room).is_err() {
+        reads.clear();
+        writes.clear();
+        return Err(NoMemory);
+    }
+    Ok(())
 }

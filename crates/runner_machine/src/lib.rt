@@ -11,6 +11,7 @@
 #![tactic(auto)]
 
 mod finding;
+mod held_lock;
 pub mod holding;
 pub mod machine;
 mod notes;

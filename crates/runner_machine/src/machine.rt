@@ -25,6 +25,7 @@ use core_lang::value::{Failure, Outcome, Value};
 use history::kept::CellValue;
 use layout::room::Room;
 use layout::table::Layout;
+use locks::lock::Lock;
 use moved_cells::grant::Grant;
 use source::memory::NoMemory;
 use std::alloc::Global;
@@ -64,6 +65,7 @@ impl<'p> Model for StackMachine<'p> {
 
 impl<'p> StackMachine<'p> {
     ghost use Rattle.std.specs.Prelude.{◌+◌, ◌≤◌, ◌^◌, [], IfOk, OnOk, slice_index};
+    ghost use Rattle.locks.specs.Locks.{among};
     ghost use Rattle.code.specs.Machine.{passed};
     ghost use Rattle.runner_machine.specs.Working.Held.{CanHold, with_grant};
     ghost use Rattle.runner_machine.specs.Working.Machines.{at_first, with_machine, with_holding, holding_of, IsFinished};
@@ -146,6 +148,13 @@ impl<'p> StackMachine<'p> {
         ensures { self.new ≡ with_holding self.old (with_grant (holding_of self.old) grant) }
     {
         self.held.grant(grant);
+    }
+
+    /// Whether it holds the cells of `lock`.
+    pub fn holds(&self, lock: Lock) -> bool
+        ensures { result ≡ among self.now.locks lock }
+    {
+        self.held.holds(lock)
     }
 
     /// Ends the section: moves the grants, the oldest first, into the empty list `grants`, and puts the reads and

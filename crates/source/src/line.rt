@@ -64,7 +64,8 @@ impl TextPlace<'_> {
     ///
     /// Out of memory.
     pub fn line(&self, alloc: Global, name: &str, words: &str) -> Result<String, NoMemory>
-        ensures { IfOk result (λ s. string_bytes s ≡ place_text self.now.file.now self.now.text.now self.now.start name.now words.now) }
+        ensures { IfOk result
+            (λ s. string_bytes s ≡ place_text self.now.file.now self.now.text.now self.now.start name.now words.now) }
     {
         let at = self.start.min(self.text.len());
         let line = line_at(self.text, at);

@@ -1,31 +1,36 @@
 -- Printed threads and declarations are parsed as the same trees.
-use Rattle.std.proofs.Common.{◌≡◌, ℕ, List, [], ◌∷◌, ◌++◌, Option, None, Some, refl, sym, ap, append_assoc}
+use Rattle.std.proofs.Common.{◌≡◌, ℕ, List, [], ◌∷◌, ◌++◌, map, Option, None, Some, refl, sym, ap, ◌∙◌, append_assoc}
 use Rattle.std.specs.Fmt.{decimal}
 use Rattle.source.specs.declared.span.Span.{Span}
 use Rattle.source.specs.declared.token.Keyword.TheVariants as keyword
-use Rattle.source.specs.declared.token.Sign.TheVariants.{OpenBrace, CloseBrace, CloseParen, Semicolon, Colon, Equals}
+use Rattle.source.specs.declared.token.Sign.TheVariants.{OpenBrace, CloseBrace, CloseParen, Semicolon, Comma, Colon}
+use Rattle.source.specs.declared.token.Sign.TheVariants.{Equals}
 use Rattle.source.specs.Tokens.{Tok}
-use Rattle.syntax.specs.Trees.{Protection, Variable, Array, Member, lock_member, final_member, field_member, Section}
-use Rattle.syntax.specs.Trees.{Call, Item, repeat, Items, no_items, item, Init, Decl, lock, struct, global, array}
+use Rattle.syntax.specs.Trees.{Protection, Variable, Array, Member, lock_member, final_member, field_member, ClassName}
+use Rattle.syntax.specs.Trees.{Section, Call, Item, repeat, Items, no_items, item, Init, Decl, lock, struct, global, array}
 use Rattle.syntax.specs.Trees.{pool, init, atomic, helper, thread}
 use Rattle.syntax.specs.Views.{option_of}
 use Rattle.syntax.specs.Grammar.{IsOptional, AreMany, no_more, one_more, IsAfter, IsType, IsConst, IsProtection}
 use Rattle.syntax.specs.Grammar.{is_protection, is_field, is_final, IsMember, is_lock_member, is_final_member}
 use Rattle.syntax.specs.Grammar.{is_field_member, is_struct, IsVariable, is_variable, IsArray, is_array, is_pool}
-use Rattle.syntax.specs.Grammar.{IsInit, is_init, IsParam, is_param, IsSection, is_section, is_block, IsCall, is_call}
+use Rattle.syntax.specs.Grammar.{IsInit, is_init, IsParam, is_param, IsClassName, is_class_name, AreTakenWhole}
+use Rattle.syntax.specs.Grammar.{none_taken, taken, IsSection, is_section, is_block, IsCall, is_call}
 use Rattle.syntax.specs.Grammar.{IsItem, is_call_item, is_repeat, IsItems, are_no_items, are_items, is_thread, IsDecl}
 use Rattle.syntax.specs.Grammar.{is_lock, is_struct_decl, is_global, is_array_decl, is_pool_decl, is_init_decl}
 use Rattle.syntax.specs.Grammar.{is_atomic, is_helper, is_thread_decl}
-use Rattle.syntax.specs.Working.Printing.{many_text, listed_text, optional_text, index_text, type_text, const_text}
+use Rattle.syntax.specs.Working.Printing.{many_text, after_comma, listed_text, optional_text, index_text, type_text}
+use Rattle.syntax.specs.Working.Printing.{const_text, class_name_text, whole_text}
 use Rattle.syntax.specs.Working.Printing.{field_text, indent, deeper, stmts_text, protection_text, value_text}
 use Rattle.syntax.specs.Working.Printing.{result_text, member_text, param_text, call_text, item_text, items_text}
 use Rattle.syntax.specs.Working.Printing.{decl_text}
 use Rattle.syntax.specs.Working.Bare.{nowhere, bare_type, bare_const, bare_number, bare_variable, bare_array}
-use Rattle.syntax.specs.Working.Bare.{bare_init, bare_protection, bare_member, bare_param, bare_section, bare_call}
+use Rattle.syntax.specs.Working.Bare.{bare_init, bare_protection, bare_member, bare_param, bare_class, bare_section}
+use Rattle.syntax.specs.Working.Bare.{bare_call}
 use Rattle.syntax.specs.Working.Bare.{bare_item, bare_items, bare_decl, bare}
 use Rattle.syntax.proofs.Marks.{Apart}
 use Rattle.syntax.proofs.Good.{Good, type_good, const_good, index_good, optional_good, listed_good, protection_good}
-use Rattle.syntax.proofs.Good.{result_good, member_good, param_good, item_good, decl_good}
+use Rattle.syntax.proofs.Good.{result_good, after_good, member_good, param_good, class_good, whole_good, item_good}
+use Rattle.syntax.proofs.Good.{decl_good}
 use Rattle.syntax.proofs.Backward.{kinds, Reads, start_of, named, numbered, along, word_on, sign_on, name_on}
 use Rattle.syntax.proofs.Backward.{number_on, paren_on, dot_on, gap_on, line_on, indent_on, Again, Rereads}
 use Rattle.syntax.proofs.Backward.{many_apart, many_again, after_again, listed_again, optional_again}
@@ -71,9 +76,12 @@ block_line : (x ls tail : List ℕ) →
     (((x ++ 32 ∷ 123 ∷ []) ++ ls) ++ 10 ∷ 125 ∷ 10 ∷ []) ++ tail ≡ x ++ 32 ∷ 123 ∷ (ls ++ 10 ∷ 125 ∷ 10 ∷ tail)
 block_line x ls tail = simp append_assoc
 
-section_line : (x ps t ss tail : List ℕ) →
-    (((((((x ++ 40 ∷ []) ++ ps) ++ 41 ∷ []) ++ t) ++ 32 ∷ 123 ∷ []) ++ ss) ++ 10 ∷ 125 ∷ 10 ∷ []) ++ tail ≡ x ++ 40 ∷ (ps ++ 41 ∷ (t ++ 32 ∷ 123 ∷ (ss ++ 10 ∷ 125 ∷ 10 ∷ tail)))
-section_line x ps t ss tail = simp append_assoc
+section_line : (x ps t cs ss tail : List ℕ) →
+    ((((((((x ++ 40 ∷ []) ++ ps) ++ 41 ∷ []) ++ t) ++ cs) ++ 32 ∷ 123 ∷ []) ++ ss) ++ 10 ∷ 125 ∷ 10 ∷ []) ++ tail ≡ x ++ 40 ∷ (ps ++ 41 ∷ (t ++ (cs ++ 32 ∷ 123 ∷ (ss ++ 10 ∷ 125 ∷ 10 ∷ tail))))
+section_line x ps t cs ss tail = simp append_assoc
+
+class_line : (x y tail : List ℕ) → ((x ++ 46 ∷ []) ++ y) ++ tail ≡ x ++ 46 ∷ (y ++ tail)
+class_line x y tail = simp append_assoc
 
 -- ---- parts that may be left out
 
@@ -210,22 +218,60 @@ mutual
         same = rw (x.same, ls.same) refl;
       }
 
+class_again : Rereads IsClassName bare_class class_name_text
+class_again c ts rest is_class_name g total tail r a =
+    let n = name_on c.lock.text g.1.1.0 r a in
+    let m = name_on c.structure.text g.0 (dot_on n) refl in
+    record {
+      reads = along (sym (class_line c.structure.text c.lock.text tail)) m;
+      tree = record { structure = named c.structure m; lock = named c.lock n };
+      is = is_class_name;
+      same = refl;
+    }
+
+whole_again : Rereads AreTakenWhole (map bare_class) whole_text
+whole_again cs ts rest none_taken g total tail r a = record { reads = r; tree = []; is = none_taken; same = refl }
+whole_again cs ts rest (taken {c} {cs = more} n ms) g total tail r a =
+    let text = after_comma class_name_text in
+    let ks = many_again (IsAfter Comma IsClassName) bare_class text (λ y us rest2 q. after_good class_good q) (after_again Comma IsClassName bare_class class_name_text class_again) (λ y t. refl) more _ _ ms (class_good _ _ _ n g.1.1) total _ (sign_on CloseParen r a) refl in
+    let k = class_again c _ _ n g.1.1 total _ ks.reads (many_apart text (λ y t. refl) more (41 ∷ tail) refl) in
+    let w = word_on keyword.Lock (paren_on (along (sym (protection_line (class_name_text c) (many_text text more) tail)) k.reads)) refl in
+    record { reads = gap_on w; tree = k.tree ∷ ks.tree; is = taken k.is ks.is; same = rw (k.same, ks.same) refl }
+
+whole_apart : (cs : List ClassName) (tail : List ℕ) → Apart tail → Apart (whole_text cs ++ tail)
+whole_apart [] tail a = a
+whole_apart (c ∷ cs) tail a = refl
+
 section_again : {s : Section} {ts rest : List Tok} → IsSection s ts rest → Good ts →
     {total : ℕ} {tail : List ℕ} (r : Reads total tail (kinds rest)) → Apart tail →
-    Again IsSection bare_section s total (s.name.text ++ 40 ∷ (listed_text param_text s.params ++ 41 ∷ (optional_text result_text s.result ++ 32 ∷ 123 ∷ (stmts_text 1 s.body.stmts ++ 10 ∷ 125 ∷ tail)))) ts r.tokens
-section_again (is_section {s} ps t (is_block b)) g {total} {tail} r a =
+    Again IsSection bare_section s total (s.name.text ++ 40 ∷ (listed_text param_text s.params ++ 41 ∷ (optional_text result_text s.result ++ (whole_text s.listed ++ 32 ∷ 123 ∷ (stmts_text 1 s.body.stmts ++ 10 ∷ 125 ∷ tail))))) ts r.tokens
+section_again (is_section {s} ps t cs (is_block b)) g {total} {tail} r a =
     let g2 = (listed_good param_good ps g.1.1).1 in
-    let k = braced_again b (optional_good result_good t g2) 0 r a in
-    let y = optional_again (IsAfter Colon IsType) bare_type result_text result_again s.result _ _ t g2 total _ (gap_on k.reads) refl in
+    let g3 = optional_good result_good t g2 in
+    let k = braced_again b (whole_good _ _ _ cs g3) 0 r a in
     let inside : List ℕ = 32 ∷ 123 ∷ (stmts_text 1 s.body.stmts ++ 10 ∷ 125 ∷ tail) in
-    let q = listed_again IsParam bare_param param_text param_good param_again s.params _ _ ps g.1.1 total _ (sign_on CloseParen y.reads (optional_apart result_text (λ x u. refl) s.result inside refl)) refl in
+    let l = whole_again s.listed _ _ cs g3 total inside (gap_on k.reads) refl in
+    let apart = whole_apart s.listed inside refl in
+    let y = optional_again (IsAfter Colon IsType) bare_type result_text result_again s.result _ _ t g2 total _ l.reads apart in
+    let q = listed_again IsParam bare_param param_text param_good param_again s.params _ _ ps g.1.1 total _ (sign_on CloseParen y.reads (optional_apart result_text (λ x u. refl) s.result (whole_text s.listed ++ inside) apart)) refl in
     let n = name_on s.name.text g.0 (paren_on q.reads) refl in
     record {
       reads = n;
-      tree = record { name = named s.name n; params = q.tree; result = y.tree; body = k.tree };
-      is = is_section q.is y.is (is_block k.is);
-      same = rw (q.same, y.same, k.same) refl;
+      tree = record { name = named s.name n; params = q.tree; result = y.tree; listed = l.tree; body = k.tree };
+      is = is_section q.is y.is l.is (is_block k.is);
+      same = rw (q.same, y.same, l.same, k.same) refl;
     }
+
+-- a section as which one without classes is read has none
+none_again : (x y : Section) (cs : List ClassName) → x.listed ≡ cs → y.listed ≡ [] → bare_section x ≡ bare_section y →
+    x.listed ≡ []
+none_again x y [] e none same = e
+none_again x y (c ∷ cs) e none same =
+    let listed : map bare_class x.listed ≡ map bare_class y.listed = ap (λ (s : Section). s.listed) same in
+    absurd (some (sym (ap (map bare_class) e) ∙ listed ∙ ap (map bare_class) none))
+  where
+    some : bare_class c ∷ map bare_class cs ≡ [] → ⊥
+    some h = cc
 
 -- ---- declarations
 
@@ -319,12 +365,13 @@ decl_again (is_init_decl f) g r =
     record { reads = w; tree = init (init_from (start_of w) i.tree); is = is_init_decl (init_restarted (start_of w) i.is); same = ap init i.same }
 decl_again (is_atomic {s} f) g {total} {tail} r =
     let i = section_again f g.1 (line_on r) refl in
-    let w = word_on keyword.Atomic (gap_on (along (sym (section_line s.name.text (listed_text param_text s.params) (optional_text result_text s.result) (stmts_text 1 s.body.stmts) tail)) i.reads)) refl in
+    let w = word_on keyword.Atomic (gap_on (along (sym (section_line s.name.text (listed_text param_text s.params) (optional_text result_text s.result) (whole_text s.listed) (stmts_text 1 s.body.stmts) tail)) i.reads)) refl in
     record { reads = w; tree = atomic i.tree; is = is_atomic i.is; same = ap atomic i.same }
-decl_again (is_helper {s} f) g {total} {tail} r =
+decl_again (is_helper {s} none f) g {total} {tail} r =
     let i = section_again f g.1 (line_on r) refl in
-    let w = word_on keyword.Call (gap_on (along (sym (section_line s.name.text (listed_text param_text s.params) (optional_text result_text s.result) (stmts_text 1 s.body.stmts) tail)) i.reads)) refl in
-    record { reads = w; tree = helper i.tree; is = is_helper i.is; same = ap helper i.same }
+    let w = word_on keyword.Call (gap_on (along (sym (section_line s.name.text (listed_text param_text s.params) (optional_text result_text s.result) (whole_text s.listed) (stmts_text 1 s.body.stmts) tail)) i.reads)) refl in
+    let empty = none_again i.tree s i.tree.listed refl none i.same in
+    record { reads = w; tree = helper i.tree; is = is_helper empty i.is; same = ap helper i.same }
 decl_again (is_thread_decl (is_thread {t} f)) g {total} {tail} r =
     let c = sign_on CloseBrace (line_on r) refl in
     let is = items_again f g.1.1.1 1 (line_on c) refl in

@@ -21,7 +21,8 @@ use Rattle.syntax.specs.Grammar.{is_var, is_assign, is_if, is_while, is_print, i
 use Rattle.syntax.specs.Grammar.{are_no_stmts, are_stmts, IsBraced, is_braced, IsElse, is_no_else, is_else, is_block}
 use Rattle.syntax.specs.Grammar.{IsIndex, is_index, IsProtection, is_protection, is_field, is_final, IsMember}
 use Rattle.syntax.specs.Grammar.{is_lock_member, is_final_member, is_field_member, is_struct, is_variable, is_array}
-use Rattle.syntax.specs.Grammar.{is_pool, is_init, IsParam, is_param, IsSection, is_section, IsCall, is_call, IsItem}
+use Rattle.syntax.specs.Grammar.{is_pool, is_init, IsParam, is_param, IsClassName, is_class_name, AreTakenWhole}
+use Rattle.syntax.specs.Grammar.{none_taken, taken, IsSection, is_section, IsCall, is_call, IsItem}
 use Rattle.syntax.specs.Grammar.{is_call_item, is_repeat, IsItems, are_no_items, are_items, is_thread, IsDecl}
 use Rattle.syntax.specs.Grammar.{is_lock, is_struct_decl, is_global, is_array_decl, is_pool_decl, is_init_decl}
 use Rattle.syntax.specs.Grammar.{is_atomic, is_helper, is_thread_decl}
@@ -179,8 +180,15 @@ result_good x ts rest a = after_good type_good a
 pub value_good : Keeps (IsAfter Equals IsConst)
 value_good x ts rest a = after_good const_good a
 
+pub class_good : Keeps IsClassName
+class_good x ts rest is_class_name g = g.1.1.1
+
+pub whole_good : Keeps AreTakenWhole
+whole_good x ts rest none_taken g = g
+whole_good x ts rest (taken c cs) g = (many_good (λ x ts rest a. after_good class_good a) cs (class_good _ _ _ c g.1.1)).1
+
 section_good : {s : Section} {ts rest : List Tok} → IsSection s ts rest → Good ts → Good rest
-section_good (is_section ps r (is_block b)) g = braced_good b (optional_good result_good r (listed_good param_good ps g.1.1).1)
+section_good (is_section ps r cs (is_block b)) g = braced_good b (whole_good _ _ _ cs (optional_good result_good r (listed_good param_good ps g.1.1).1))
 
 pub decl_good : {d : Decl} {ts rest : List Tok} → IsDecl d ts rest → Good ts → Good rest
 decl_good is_lock g = g.1.1.1
@@ -190,5 +198,5 @@ decl_good (is_array_decl (is_array t n p)) g = (optional_good protection_good p 
 decl_good (is_pool_decl (is_pool n)) g = (index_good _ _ _ n g.1.1.1).1
 decl_good (is_init_decl (is_init n c)) g = (const_good _ _ _ c (index_good _ _ _ n g.1.1).1.1.1).1
 decl_good (is_atomic s) g = section_good s g.1
-decl_good (is_helper s) g = section_good s g.1
+decl_good (is_helper none s) g = section_good s g.1
 decl_good (is_thread_decl (is_thread is)) g = (items_good is g.1.1.1).1

@@ -18,11 +18,12 @@ use Rattle.source.specs.declared.token.Number.{Number}
 use Rattle.syntax.specs.declared.tree.Item as the_item
 use Rattle.syntax.specs.declared.tree.Item.{Repeat}
 use Rattle.std.specs.Fmt.{decimal}
-use Rattle.syntax.specs.Trees.{Expr}
+use Rattle.syntax.specs.Trees.{Expr, ClassName}
 use Rattle.syntax.specs.Views.{expr_of, pair_of, joined_of, links_of, stmt_of, if_of, stmts_of, else_of, item_of}
 use Rattle.syntax.specs.Views.{items_of}
 use Rattle.syntax.specs.Working.Printing.{many_text, after_comma, listed_text, op_text, expr_text, links_text, indent}
-use Rattle.syntax.specs.Working.Printing.{deeper, braced, stmt_text, stmts_text, else_text, item_text, items_text}
+use Rattle.syntax.specs.Working.Printing.{deeper, braced, stmt_text, stmts_text, else_text, class_name_text}
+use Rattle.syntax.specs.Working.Printing.{whole_text, item_text, items_text}
 use Rattle.syntax.specs.Theory.Rows.{joined_of-Chain, while_of, stmt_of-While, if_of-out, item_of_Repeat}
 
 pub indent_is : (d : ℕ) → (d ≡ 0 → ⊥) → codes "    " ++ indent (d - 1) ≡ indent d
@@ -46,6 +47,24 @@ some_listed text view (y ∷ ys) x some is =
     let all : length ys ≤ length (y ∷ ys) - 1 = omega arith in
     ap (λ l. text (view x) ++ many_text (after_comma text) (map view l)) (take_all _ ys all)
     ∙ ap (λ z. text (view z) ++ many_text (after_comma text) (map view ys)) is
+
+-- ---- classes that a section takes whole
+
+pub none_whole : {A : Type 0} (view : A → ClassName) (cs : List A) → length cs < 1 → [] ≡ whole_text (map view cs)
+none_whole view [] none = refl
+none_whole view (c ∷ cs) none = absurd (omega arith)
+
+whole_line : (l x xs r : List ℕ) → ((l ++ x) ++ xs) ++ r ≡ (l ++ (x ++ xs)) ++ r
+whole_line l x xs r = simp append_assoc
+
+pub some_whole : {A : Type 0} (view : A → ClassName) (cs : List A) (c : A) → 1 ≤ length cs → c ≡ get_or cs 0 c
+    → codes " lock(" ++ class_name_text (view c) ++ many_text (after_comma class_name_text) (map view (take (length cs - 1) (drop 1 cs))) ++ codes ")" ≡ whole_text (map view cs)
+some_whole view [] c some is = absurd (omega arith)
+some_whole view (d ∷ ds) c some is =
+    let text = class_name_text in
+    let rest = map view (take (length (d ∷ ds) - 1) (drop 1 (d ∷ ds))) in
+    whole_line (codes " lock(") (text (view c)) (many_text (after_comma text) rest) (codes ")")
+    ∙ ap (λ (l : List ℕ). codes " lock(" ++ l ++ codes ")") (some_listed text view (d ∷ ds) c some is)
 
 -- ---- a `Vec` in a recursive type
 

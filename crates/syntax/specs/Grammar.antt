@@ -27,8 +27,8 @@ use Rattle.syntax.specs.Trees.{compare, Links, no_links, link, Local, Owner, Hel
 use Rattle.syntax.specs.Trees.{let_owned, let_call, var_local, assign, if_then, while, print, return_value, Stmts}
 use Rattle.syntax.specs.Trees.{no_stmts, stmt, Otherwise, no_else, else_do, Block, Protection, Variable, Array, Final}
 use Rattle.syntax.specs.Trees.{Field, Member, lock_member, final_member, field_member, Struct, Pool, Init, Param}
-use Rattle.syntax.specs.Trees.{Section, Call, Item, repeat, Items, no_items, item, Thread, Decl, lock, struct, global}
-use Rattle.syntax.specs.Trees.{array, pool, init, atomic, helper, thread}
+use Rattle.syntax.specs.Trees.{ClassName, Section, Call, Item, repeat, Items, no_items, item, Thread, Decl, lock}
+use Rattle.syntax.specs.Trees.{struct, global, array, pool, init, atomic, helper, thread}
 pub use Rattle.source.specs.Limits.{NESTING_LIMIT}
 
 -- the token of this kind at this position
@@ -349,12 +349,26 @@ pub data IsInit : Init → List Tok → List Tok → Type 0 where
 pub data IsParam : Param → List Tok → List Tok → Type 0 where
   is_param : {p : Param} {ts rest : List Tok} → IsType p.value_type ts (name_tok p.name ∷ rest) → IsParam p ts rest
 
--- a section or a helper, after its first word
+-- a lock class: the name of its struct, a dot and the name of the struct's lock
+pub data IsClassName : ClassName → List Tok → List Tok → Type 0 where
+  is_class_name : {c : ClassName} {dot : Span} {ts : List Tok} →
+      IsClassName c (name_tok c.structure ∷ tok (mark Dot) dot ∷ name_tok c.lock ∷ ts) ts
+
+-- the lock classes that a section takes whole: nothing, or `lock` and one or more classes in parentheses
+pub data AreTakenWhole : List ClassName → List Tok → List Tok → Type 0 where
+  none_taken : {ts : List Tok} → AreTakenWhole [] ts ts
+  taken : {c : ClassName} {cs : List ClassName} {start before after : Span} {ts mid rest : List Tok}
+      → IsClassName c ts mid
+      → AreMany (IsAfter Comma IsClassName) cs mid (tok (mark CloseParen) after ∷ rest)
+      → AreTakenWhole (c ∷ cs) (tok (word keyword.Lock) start ∷ tok (mark OpenParen) before ∷ ts) rest
+
+-- a section, after its first word
 pub data IsSection : Section → List Tok → List Tok → Type 0 where
-  is_section : {s : Section} {before after : Span} {ts1 ts2 ts3 rest : List Tok}
+  is_section : {s : Section} {before after : Span} {ts1 ts2 ts3 ts4 rest : List Tok}
       → AreListed IsParam s.params ts1 (tok (mark CloseParen) after ∷ ts2)
       → IsOptional (IsAfter Colon IsType) s.result ts2 ts3
-      → IsBlock s.body ts3 rest
+      → AreTakenWhole s.listed ts3 ts4
+      → IsBlock s.body ts4 rest
       → IsSection s (name_tok s.name ∷ tok (mark OpenParen) before ∷ ts1) rest
 
 -- a call in a thread: the section, its constants and a semicolon
@@ -399,7 +413,7 @@ pub data IsDecl : Decl → List Tok → List Tok → Type 0 where
       IsDecl (init i) (tok (word keyword.Init) i.start ∷ ts) rest
   is_atomic : {s : Section} {start : Span} {ts rest : List Tok} → IsSection s ts rest →
       IsDecl (atomic s) (tok (word keyword.Atomic) start ∷ ts) rest
-  is_helper : {s : Section} {start : Span} {ts rest : List Tok} → IsSection s ts rest →
+  is_helper : {s : Section} {start : Span} {ts rest : List Tok} → s.listed ≡ [] → IsSection s ts rest →
       IsDecl (helper s) (tok (word keyword.Call) start ∷ ts) rest
   is_thread_decl : {t : Thread} {start : Span} {ts rest : List Tok} → IsThread t ts rest →
       IsDecl (thread t) (tok (word keyword.Thread) start ∷ ts) rest

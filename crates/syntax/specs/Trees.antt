@@ -155,11 +155,17 @@ pub record Param : Type 0 where
   pub name : Ident
   pub value_type : ValueType
 
--- a section or a helper
+-- a lock class: the names of its struct and of the struct's lock
+pub record ClassName : Type 0 where
+  pub structure : Ident
+  pub lock : Ident
+
+-- a section or a helper: its name, its parameters, its result type, the lock classes that it takes whole, and its body
 pub record Section : Type 0 where
   pub name : Ident
   pub params : List Param
   pub result : Option ValueType
+  pub listed : List ClassName
   pub body : Block
 
 -- a call of a section

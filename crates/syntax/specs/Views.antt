@@ -35,6 +35,7 @@ use Rattle.syntax.specs.declared.tree.Struct as the_struct
 use Rattle.syntax.specs.declared.tree.Pool as the_pool
 use Rattle.syntax.specs.declared.tree.Init as the_init
 use Rattle.syntax.specs.declared.tree.Param as the_param
+use Rattle.syntax.specs.declared.tree.ClassName as the_class_name
 use Rattle.syntax.specs.declared.tree.Section as the_section
 use Rattle.syntax.specs.declared.tree.Call as the_call
 use Rattle.syntax.specs.declared.tree.Item as the_item
@@ -49,8 +50,8 @@ use Rattle.syntax.specs.Trees.{compare, Links, no_links, link, Local, Owner, Hel
 use Rattle.syntax.specs.Trees.{let_owned, let_call, var_local, assign, if_then, while, print, return_value, Stmts}
 use Rattle.syntax.specs.Trees.{no_stmts, stmt, Otherwise, no_else, else_do, Block, Protection, Variable, Array, Final}
 use Rattle.syntax.specs.Trees.{Field, Member, lock_member, final_member, field_member, Struct, Pool, Init, Param}
-use Rattle.syntax.specs.Trees.{Section, Call, Item, call, repeat, Items, no_items, item, Thread, Decl, lock, struct}
-use Rattle.syntax.specs.Trees.{global, array, pool, init, atomic, helper, thread}
+use Rattle.syntax.specs.Trees.{ClassName, Section, Call, Item, call, repeat, Items, no_items, item, Thread, Decl}
+use Rattle.syntax.specs.Trees.{lock, struct, global, array, pool, init, atomic, helper, thread}
 use Rattle.syntax.specs.Grammar.{level_of}
 
 abbrev pub ident : the_name.Name → Ident
@@ -199,8 +200,11 @@ init_of i = record { start = i.start; pool = ident i.pool; index = i.index; fiel
 abbrev pub param_of : the_param.Param → Param
 param_of p = record { name = ident p.name; value_type = type_of p.value_type }
 
+abbrev pub class_name_of : the_class_name.ClassName → ClassName
+class_name_of c = record { structure = ident c.structure; lock = ident c.lock }
+
 abbrev pub section_of : the_section.Section → Section
-section_of s = record { name = ident s.name; params = map param_of s.params.items; result = option_of type_of s.result; body = block_of s.body }
+section_of s = record { name = ident s.name; params = map param_of s.params.items; result = option_of type_of s.result; listed = map class_name_of s.listed.items; body = block_of s.body }
 
 abbrev pub call_of : the_call.Call → Call
 call_of c = record { section = ident c.section; arguments = map const_of c.arguments.items }

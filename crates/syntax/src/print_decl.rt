@@ -2,15 +2,16 @@
 
 ghost use Rattle.std.specs.Prelude.{map};
 ghost use Rattle.syntax.specs.Working.Adding.{Adds};
-ghost use Rattle.syntax.specs.Views.{protection_of, const_of, type_of, option_of, member_of, struct_of, variable_of, array_of, pool_of, init_of, param_of, section_of, decl_of};
-ghost use Rattle.syntax.specs.Working.Printing.{many_text, after_comma, listed_text, optional_text, protection_text, value_text, result_text, member_text, struct_text, variable_text, array_text, pool_text, init_text, param_text, section_text, decl_text, tree_text};
+ghost use Rattle.syntax.specs.Views.{protection_of, const_of, type_of, option_of, member_of, struct_of, variable_of, array_of, pool_of, init_of, param_of, class_name_of, section_of, decl_of};
+ghost use Rattle.syntax.specs.Working.Printing.{many_text, after_comma, listed_text, optional_text, protection_text, value_text, result_text, member_text, struct_text, variable_text, array_text, pool_text, init_text, param_text, class_name_text, whole_text, section_text, decl_text, tree_text};
 
 use crate::print::{push_const, push_fields, push_index, push_type};
 use crate::print_stmt::push_stmts;
 use crate::print_thread::push_thread;
 use crate::printer::Printer;
 use crate::tree::{
-    Array, Const, Decl, Init, Member, Param, Pool, Protection, Section, Struct, ValueType, Variable,
+    Array, ClassName, Const, Decl, Init, Member, Param, Pool, Protection, Section, Struct,
+    ValueType, Variable,
 };
 
 fn push_annotation(out: &mut Printer, protection: &Protection)
@@ -167,6 +168,38 @@ fn push_params(out: &mut Printer, params: &[Param])
     }
 }
 
+fn push_class(out: &mut Printer, class: &ClassName)
+    ensures { Adds out.old out.new (class_name_text (class_name_of class.now)) }
+{
+    out.push_name(&class.structure);
+    out.push_named(".", &class.lock);
+}
+
+/// Appends lock classes, with a comma before each.
+fn push_more_classes(out: &mut Printer, classes: &[ClassName])
+    ensures { Adds out.old out.new (many_text (after_comma class_name_text) (map class_name_of classes.now)) }
+{
+    'classes: for class in classes {
+        out.push_str(", ");
+        push_class(out, class);
+    }
+}
+
+/// Appends the lock classes that a section takes whole, if there are any.
+fn push_listed(out: &mut Printer, classes: &[ClassName])
+    ensures { Adds out.old out.new (whole_text (map class_name_of classes.now)) }
+{
+    match classes {
+        [] => {}
+        [first, more @ ..] => {
+            out.push_str(" lock(");
+            push_class(out, first);
+            push_more_classes(out, more);
+            out.push_str(")");
+        }
+    }
+}
+
 /// Appends a section or a helper, with this word before its name.
 fn push_section(out: &mut Printer, word: &str, section: &Section)
     ensures { Adds out.old out.new (section_text word.now (section_of section.now)) }
@@ -176,6 +209,7 @@ fn push_section(out: &mut Printer, word: &str, section: &Section)
     push_params(out, &section.params);
     out.push_str(")");
     push_result(out, &section.result);
+    push_listed(out, &section.listed);
     out.push_str(" {");
     push_stmts(out, &section.body.stmts, 1);
     out.push_str("\n}\n");

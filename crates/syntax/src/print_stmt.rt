@@ -124,7 +124,8 @@ fn push_call(out: &mut Printer, call: &HelperCall)
 }
 
 fn push_assignment(out: &mut Printer, place: &Place, e: &Expr)
-    ensures { Adds out.old out.new (place_text (place_of place.now) ++ codes " = " ++ expr_text (expr_of e.now) ++ codes ";") }
+    ensures { Adds out.old out.new
+        (place_text (place_of place.now) ++ codes " = " ++ expr_text (expr_of e.now) ++ codes ";") }
 {
     push_place(out, place);
     out.push_str(" = ");

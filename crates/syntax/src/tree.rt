@@ -379,14 +379,23 @@ pub struct Param {
     pub value_type: ValueType,
 }
 
-/// `atomic f(int a, int b): int { .. }`: an atomic section, or `call f(int a, int b): int { .. }`: a helper, which has
-/// the same parts.
+/// `S.l`: a lock class, by the names of its struct and of the struct's lock.
+#[derive(Drop)]
+pub struct ClassName {
+    pub structure: Name,
+    pub lock: Name,
+}
+
+/// `atomic f(int a, int b): int lock(S.l) { .. }`: an atomic section, or `call f(int a, int b): int { .. }`: a helper,
+/// which has the same parts.
 #[derive(Drop)]
 pub struct Section {
     pub name: Name,
     pub params: Vec<Param>,
     /// The result type, if it returns a value.
     pub result: Option<ValueType>,
+    /// The lock classes that it takes whole, in the order of the text. In a text, a helper has none.
+    pub listed: Vec<ClassName>,
     pub body: Block,
 }
 

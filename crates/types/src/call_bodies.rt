@@ -28,7 +28,8 @@ impl Reader<'_> {
 
     /// The calls and counts of a section or a helper with these limits. The only error is a failed allocation.
     pub fn body(&self, s: &Section, limits: BodyLimits) -> Result<CallerBody, AllocError>
-        ensures { IfOk result (λ body. body_of body ≡ body_within (decls_of self.now.symbols.now) limits (section_of s.now)) }
+        ensures { IfOk result
+            (λ body. body_of body ≡ body_within (decls_of self.now.symbols.now) limits (section_of s.now)) }
     {
         let mut walk = Walk {
             locals: Locals::new(self.symbols.maker(), self.result_type(s), limits),

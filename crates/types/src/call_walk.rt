@@ -56,7 +56,8 @@ pub struct Reader<'a> {
 impl Reader<'_> {
     // The number of the helper that a name refers to, if it refers to one.
     fn number(&self, locals: &Locals, name: &Name) -> Option<usize>
-        ensures { result ≡ number_meant (decls_of self.now.symbols.now) (meaning (scope_at self.now locals.now) (ident name.now).text) }
+        ensures { result ≡ number_meant (decls_of self.now.symbols.now)
+            (meaning (scope_at self.now locals.now) (ident name.now).text) }
     {
         match meaning_at(self.symbols, locals, name) {
             ResolvedName::Decl(place, d) => match d {
@@ -70,7 +71,8 @@ impl Reader<'_> {
     // Notes a call, if it is one of a helper.
     fn call(&self, call: &HelperCall, is_bound: bool, walk: &mut Walk) -> Result<(), AllocError>
         ensures locals { walk.new.locals ≡ walk.old.locals }
-        ensures calls { OnOk result (AddsCalls self.now walk.old walk.new (λ sc. call_sites sc is_bound (helper_call_of call.now))) }
+        ensures calls { OnOk result
+            (AddsCalls self.now walk.old walk.new (λ sc. call_sites sc is_bound (helper_call_of call.now))) }
         ensures points { walk.new.points ≡ walk.old.points }
     {
         if let Some(helper) = self.number(&walk.locals, &call.helper) {
@@ -91,7 +93,8 @@ impl Reader<'_> {
         value_type: &tree::ValueType,
         locals: &mut Locals,
     ) -> Result<(), AllocError>
-        ensures { OnOk result (Leads self.now locals.old locals.new (λ sc. bound sc kind (ident name.now) (type_of sc (type_seen value_type.now)))) }
+        ensures { OnOk result (Leads self.now locals.old locals.new
+            (λ sc. bound sc kind (ident name.now) (type_of sc (type_seen value_type.now)))) }
     {
         let value_type = type_at(self.symbols, locals, value_type);
         locals.bind(self.alloc, name, kind, value_type)
@@ -110,7 +113,8 @@ impl Reader<'_> {
 
     // Visits a `let` or `var` with its value.
     fn local(&self, kind: LocalKind, local: &tree::Local, walk: &mut Walk) -> Result<(), AllocError>
-        ensures scope { OnOk result (Leads self.now walk.old.locals walk.new.locals (λ sc. bound sc kind (local_of local.now).name (type_of sc (local_of local.now).value_type))) }
+        ensures scope { OnOk result (Leads self.now walk.old.locals walk.new.locals
+            (λ sc. bound sc kind (local_of local.now).name (type_of sc (local_of local.now).value_type))) }
         ensures calls { OnOk result (walk.new.calls ≡ walk.old.calls) }
         ensures points { OnOk result (walk.new.points ≡ walk.old.points + 1) }
     {
@@ -149,8 +153,10 @@ impl Reader<'_> {
     // Visits a loop.
     #[cycle(stmts)]
     fn repetition(&self, repetition: &tree::While, walk: &mut Walk) -> Result<(), AllocError>
-        ensures scope { OnOk result (Leads self.now walk.old.locals walk.new.locals (λ sc. after sc (while_of repetition.now))) }
-        ensures calls { OnOk result (AddsCalls self.now walk.old walk.new (λ sc. stmt_calls sc (while_of repetition.now))) }
+        ensures scope { OnOk result
+            (Leads self.now walk.old.locals walk.new.locals (λ sc. after sc (while_of repetition.now))) }
+        ensures calls { OnOk result
+            (AddsCalls self.now walk.old walk.new (λ sc. stmt_calls sc (while_of repetition.now))) }
         ensures points { OnOk result (walk.new.points ≡ walk.old.points + stmt_points (while_of repetition.now)) }
     {
         walk.point()?;
@@ -160,7 +166,8 @@ impl Reader<'_> {
     // Visits a choice.
     #[cycle(stmts)]
     fn choice(&self, choice: &If, walk: &mut Walk) -> Result<(), AllocError>
-        ensures scope { OnOk result (Leads self.now walk.old.locals walk.new.locals (λ sc. after sc (if_of choice.now))) }
+        ensures scope { OnOk result
+            (Leads self.now walk.old.locals walk.new.locals (λ sc. after sc (if_of choice.now))) }
         ensures calls { OnOk result (AddsCalls self.now walk.old walk.new (λ sc. stmt_calls sc (if_of choice.now))) }
         ensures points { OnOk result (walk.new.points ≡ walk.old.points + stmt_points (if_of choice.now)) }
     {
@@ -172,7 +179,8 @@ impl Reader<'_> {
     // Visits what follows `else`.
     #[cycle(stmts)]
     fn otherwise(&self, other: &Option<Block>, walk: &mut Walk) -> Result<(), AllocError>
-        ensures scope { OnOk result (Leads self.now walk.old.locals walk.new.locals (λ sc. after_else sc (else_of other.now))) }
+        ensures scope { OnOk result
+            (Leads self.now walk.old.locals walk.new.locals (λ sc. after_else sc (else_of other.now))) }
         ensures calls { OnOk result (AddsCalls self.now walk.old walk.new (λ sc. else_calls sc (else_of other.now))) }
         ensures points { OnOk result (walk.new.points ≡ walk.old.points + else_points (else_of other.now)) }
     {
@@ -185,9 +193,12 @@ impl Reader<'_> {
     // Visits a block. Its locals are out of scope after it.
     #[cycle(stmts)]
     fn block(&self, block: &Block, walk: &mut Walk) -> Result<(), AllocError>
-        ensures scope { OnOk result (Leads self.now walk.old.locals walk.new.locals (λ sc. behind_block sc (stmts_of block.now.stmts.items))) }
-        ensures calls { OnOk result (AddsCalls self.now walk.old walk.new (λ sc. stmts_calls sc (stmts_of block.now.stmts.items))) }
-        ensures points { OnOk result (walk.new.points ≡ walk.old.points + stmts_points (stmts_of block.now.stmts.items)) }
+        ensures scope { OnOk result
+            (Leads self.now walk.old.locals walk.new.locals (λ sc. behind_block sc (stmts_of block.now.stmts.items))) }
+        ensures calls { OnOk result
+            (AddsCalls self.now walk.old walk.new (λ sc. stmts_calls sc (stmts_of block.now.stmts.items))) }
+        ensures points { OnOk result
+            (walk.new.points ≡ walk.old.points + stmts_points (stmts_of block.now.stmts.items)) }
     {
         let ahead = walk.locals.len();
         self.stmts(&block.stmts, walk)?;
@@ -198,7 +209,8 @@ impl Reader<'_> {
     /// Visits statements, one after another.
     #[cycle(stmts)]
     pub fn stmts(&self, stmts: &[Stmt], walk: &mut Walk) -> Result<(), AllocError>
-        ensures scope { OnOk result (Leads self.now walk.old.locals walk.new.locals (λ sc. after_all sc (stmts_of stmts.now))) }
+        ensures scope { OnOk result
+            (Leads self.now walk.old.locals walk.new.locals (λ sc. after_all sc (stmts_of stmts.now))) }
         ensures calls { OnOk result (AddsCalls self.now walk.old walk.new (λ sc. stmts_calls sc (stmts_of stmts.now))) }
         ensures points { OnOk result (walk.new.points ≡ walk.old.points + stmts_points (stmts_of stmts.now)) }
     {

@@ -86,7 +86,8 @@ fn add_elements(
 
 /// Adds a section, if it has no fault.
 pub fn add_section(section: Option<Section>, program: &mut Typed) -> Result<bool, AllocError>
-    ensures { IfOk result (λ right. if_right right program.new ≡ with_section (core_of program.old) (option_map core_section section)) }
+    ensures { IfOk result
+        (λ right. if_right right program.new ≡ with_section (core_of program.old) (option_map core_section section)) }
 {
     let Some(section) = section else {
         return Ok(false);
@@ -97,7 +98,8 @@ pub fn add_section(section: Option<Section>, program: &mut Typed) -> Result<bool
 
 /// Adds a helper, if it has no fault.
 pub fn add_helper(helper: Option<Section>, program: &mut Typed) -> Result<bool, AllocError>
-    ensures { IfOk result (λ right. if_right right program.new ≡ with_helper (core_of program.old) (option_map core_section helper)) }
+    ensures { IfOk result
+        (λ right. if_right right program.new ≡ with_helper (core_of program.old) (option_map core_section helper)) }
 {
     let Some(helper) = helper else {
         return Ok(false);
@@ -126,7 +128,8 @@ impl<'a> Builder<'a> {
         table: &'a Structure<'a>,
         program: &mut Typed,
     ) -> Result<bool, AllocError>
-        ensures { IfOk result (λ right. if_right right program.new ≡ extended_of self.now place program.old (struct (struct_of table.now))) }
+        ensures { IfOk result (λ right. if_right right program.new ≡ extended_of self.now place program.old
+            (struct (struct_of table.now))) }
     {
         let here = StructPlace {
             number: program.structs.len(),
@@ -149,7 +152,8 @@ impl<'a> Builder<'a> {
 
     /// Adds a global, if it has no fault.
     pub fn add_global(&self, v: &Variable, program: &mut Typed) -> Result<bool, AllocError>
-        ensures { IfOk result (λ right. if_right right program.new ≡ global_with (known self.now) (core_of program.old) (variable_of v.now)) }
+        ensures { IfOk result (λ right. if_right right program.new ≡ global_with (known self.now) (core_of program.old)
+            (variable_of v.now)) }
     {
         let Some(class) = class_of(self.symbols, &v.protection) else {
             return Ok(false);
@@ -175,7 +179,8 @@ impl<'a> Builder<'a> {
 
     /// Adds an array, if it has no fault.
     pub fn add_array(&self, a: &Array, program: &mut Typed) -> Result<bool, AllocError>
-        ensures { IfOk result (λ right. if_right right program.new ≡ array_with (known self.now) (core_of program.old) (array_of a.now)) }
+        ensures { IfOk result
+            (λ right. if_right right program.new ≡ array_with (known self.now) (core_of program.old) (array_of a.now)) }
     {
         let Some(class) = class_of(self.symbols, &a.protection) else {
             return Ok(false);
@@ -208,7 +213,8 @@ impl<'a> Builder<'a> {
         calls: Option<Vec<Call>>,
         program: &mut Typed,
     ) -> Result<bool, AllocError>
-        ensures { IfOk result (λ right. if_right right program.new ≡ with_thread (core_of program.old) (ident name.now).text (calls_in calls)) }
+        ensures { IfOk result (λ right. if_right right program.new ≡ with_thread (core_of program.old)
+            (ident name.now).text (calls_in calls)) }
     {
         let Some(calls) = calls else {
             return Ok(false);

@@ -49,7 +49,8 @@ fn member_want(symbols: &SymbolTable, m: Option<(usize, &Member)>) -> Want
 
 /// Notes null for a final reference.
 fn report_null(symbols: &SymbolTable, m: Option<(usize, &Member)>, c: &Const, firsts: &mut Firsts)
-    ensures { firsts.new ≡ found_in firsts.old (null_faults (decls_of symbols.now) (member_found m.entry) (const_of c.now)) }
+    ensures { firsts.new ≡ found_in firsts.old
+        (null_faults (decls_of symbols.now) (member_found m.entry) (const_of c.now)) }
 {
     if let (Some((_, Member::Final(f))), Const::Null(at)) = (m, c) {
         let is_known = struct_named(symbols, &f.target).is_some();

@@ -170,7 +170,8 @@ impl<'a> Builder<'a> {
         m: &Member,
         program: &mut Typed,
     ) -> Result<bool, AllocError>
-        ensures { IfOk result (λ right. if_right right program.new ≡ with_member_of self.now slot at program.old m.now) }
+        ensures { IfOk result
+            (λ right. if_right right program.new ≡ with_member_of self.now slot at program.old m.now) }
     {
         let symbols = self.symbols;
         match m {
@@ -201,7 +202,8 @@ impl<'a> Builder<'a> {
         members: &[Member],
         program: &mut Typed,
     ) -> Result<bool, AllocError>
-        ensures { IfOk result (λ right. if_right right program.new ≡ with_members_of self.now slot program.old members.now) }
+        ensures { IfOk result
+            (λ right. if_right right program.new ≡ with_members_of self.now slot program.old members.now) }
     {
         let mut fields = 0;
         for (place, m) in members.iter().enumerate() {
@@ -220,7 +222,8 @@ impl<'a> Builder<'a> {
         index: usize,
         program: &mut Typed,
     ) -> Result<bool, AllocError>
-        ensures { IfOk result (λ right. if_right right program.new ≡ with_object_of self.now pool.now program.old index) }
+        ensures { IfOk result
+            (λ right. if_right right program.new ≡ with_object_of self.now pool.now program.old index) }
     {
         let Some(cells) = cell_at(program.cells.len()) else {
             return Ok(false);
@@ -248,7 +251,8 @@ impl<'a> Builder<'a> {
         count: u32,
         program: &mut Typed,
     ) -> Result<bool, AllocError>
-        ensures { IfOk result (λ right. if_right right program.new ≡ with_objects_of self.now pool.now program.old count) }
+        ensures { IfOk result
+            (λ right. if_right right program.new ≡ with_objects_of self.now pool.now program.old count) }
     {
         for index in 0..count {
             if !self.add_object(pool, index as usize, program)? {
@@ -260,7 +264,8 @@ impl<'a> Builder<'a> {
 
     /// Adds the pool at this place, if it has no fault.
     pub fn add_pool(&self, place: usize, p: &Pool, program: &mut Typed) -> Result<bool, AllocError>
-        ensures { IfOk result (λ right. if_right right program.new ≡ extended_of self.now place program.old (pool (pool_of p.now))) }
+        ensures { IfOk result
+            (λ right. if_right right program.new ≡ extended_of self.now place program.old (pool (pool_of p.now))) }
     {
         let symbols = self.symbols;
         let Some(structure) = struct_named(symbols, &p.target) else {
@@ -333,7 +338,8 @@ fn is_at(place: usize, found: Option<usize>) -> bool
 
 /// Whether some member of the pool at a place has a final reference without an `init`.
 fn lacks(symbols: &SymbolTable, pool: usize, count: u64, structure: &Structure) -> bool
-    ensures { result ≡ lacks (decls_of symbols.now) pool count (members_seen structure.now) 0 (members_seen structure.now) }
+    ensures { result ≡ lacks (decls_of symbols.now) pool count (members_seen structure.now) 0
+        (members_seen structure.now) }
 {
     let members = &structure.item().members;
     for (place, m) in members.iter().enumerate() {

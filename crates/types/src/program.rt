@@ -58,8 +58,10 @@ impl<'a> Judge<'a> {
         grown: &mut ProgramBuilder,
         firsts: &mut Firsts,
     ) -> Result<(), AllocError>
-        ensures value { OnOk result (built grown.new ≡ extended_if (known self.now) place (built grown.old) (struct (struct_of table.now))) }
-        ensures faults { OnOk result (firsts.new ≡ found_in firsts.old (decl_faults (known self.now) place (struct (struct_of table.now)))) }
+        ensures value { OnOk result
+            (built grown.new ≡ extended_if (known self.now) place (built grown.old) (struct (struct_of table.now))) }
+        ensures faults { OnOk result
+            (firsts.new ≡ found_in firsts.old (decl_faults (known self.now) place (struct (struct_of table.now)))) }
     {
         let members = &table.item().members;
         self.builder.report_members(place, table, members, firsts)?;
@@ -77,8 +79,10 @@ impl<'a> Judge<'a> {
         grown: &mut ProgramBuilder,
         firsts: &mut Firsts,
     ) -> Result<(), AllocError>
-        ensures value { OnOk result (built grown.new ≡ global_if (known self.now) (built grown.old) (variable_of v.now)) }
-        ensures faults { OnOk result (firsts.new ≡ found_in firsts.old (global_faults (known self.now) (variable_of v.now))) }
+        ensures value { OnOk result
+            (built grown.new ≡ global_if (known self.now) (built grown.old) (variable_of v.now)) }
+        ensures faults { OnOk result
+            (firsts.new ≡ found_in firsts.old (global_faults (known self.now) (variable_of v.now))) }
     {
         let symbols = self.builder.symbols;
         report_type(symbols, &v.value_type, firsts);
@@ -100,7 +104,8 @@ impl<'a> Judge<'a> {
         firsts: &mut Firsts,
     ) -> Result<(), AllocError>
         ensures value { OnOk result (built grown.new ≡ array_if (known self.now) (built grown.old) (array_of a.now)) }
-        ensures faults { OnOk result (firsts.new ≡ found_in firsts.old (array_faults (known self.now) (array_of a.now))) }
+        ensures faults { OnOk result
+            (firsts.new ≡ found_in firsts.old (array_faults (known self.now) (array_of a.now))) }
     {
         let symbols = self.builder.symbols;
         report_type(symbols, &a.value_type, firsts);
@@ -120,8 +125,10 @@ impl<'a> Judge<'a> {
         grown: &mut ProgramBuilder,
         firsts: &mut Firsts,
     ) -> Result<(), AllocError>
-        ensures value { OnOk result (built grown.new ≡ extended_if (known self.now) place (built grown.old) (pool (pool_of p.now))) }
-        ensures faults { OnOk result (firsts.new ≡ found_in firsts.old (decl_faults (known self.now) place (pool (pool_of p.now)))) }
+        ensures value { OnOk result
+            (built grown.new ≡ extended_if (known self.now) place (built grown.old) (pool (pool_of p.now))) }
+        ensures faults { OnOk result
+            (firsts.new ≡ found_in firsts.old (decl_faults (known self.now) place (pool (pool_of p.now)))) }
     {
         report_target(self.builder.symbols, &p.target, firsts);
         report_missing(self.builder.symbols, place, p, firsts);
@@ -138,8 +145,10 @@ impl<'a> Judge<'a> {
         grown: &mut ProgramBuilder,
         firsts: &mut Firsts,
     ) -> Result<(), AllocError>
-        ensures value { OnOk result (built grown.new ≡ section_if (known self.now) (built grown.old) (section_of s.now)) }
-        ensures faults { OnOk result (firsts.new ≡ found_in firsts.old (section_faults (known self.now) section_limits (section_of s.now))) }
+        ensures value { OnOk result
+            (built grown.new ≡ section_if (known self.now) (built grown.old) (section_of s.now)) }
+        ensures faults { OnOk result
+            (firsts.new ≡ found_in firsts.old (section_faults (known self.now) section_limits (section_of s.now))) }
     {
         let section = check_section(self.builder.alloc, self.builder.symbols, s, firsts)?;
         if grown.is_right {
@@ -155,8 +164,10 @@ impl<'a> Judge<'a> {
         grown: &mut ProgramBuilder,
         firsts: &mut Firsts,
     ) -> Result<(), AllocError>
-        ensures value { OnOk result (built grown.new ≡ helper_if (known self.now) (built grown.old) (section_of s.now)) }
-        ensures faults { OnOk result (firsts.new ≡ found_in firsts.old (section_faults (known self.now) helper_limits (section_of s.now))) }
+        ensures value { OnOk result
+            (built grown.new ≡ helper_if (known self.now) (built grown.old) (section_of s.now)) }
+        ensures faults { OnOk result
+            (firsts.new ≡ found_in firsts.old (section_faults (known self.now) helper_limits (section_of s.now))) }
     {
         let helper = check_helper(self.builder.alloc, self.builder.symbols, s, firsts)?;
         if grown.is_right {
@@ -173,7 +184,8 @@ impl<'a> Judge<'a> {
         firsts: &mut Firsts,
     ) -> Result<(), AllocError>
         ensures value { OnOk result (built grown.new ≡ thread_if (known self.now) (built grown.old) (thread_of t.now)) }
-        ensures faults { OnOk result (firsts.new ≡ found_in firsts.old (items_faults (known self.now) (items_of t.now.items.items))) }
+        ensures faults { OnOk result
+            (firsts.new ≡ found_in firsts.old (items_faults (known self.now) (items_of t.now.items.items))) }
     {
         report_items(self.builder.symbols, &t.items, firsts);
         if grown.is_right {
@@ -193,8 +205,10 @@ impl<'a> Judge<'a> {
         firsts: &mut Firsts,
     ) -> Result<(), AllocError>
         requires { slice_get (known self.now) place ≡ Some (decl_of d.now) }
-        ensures value { OnOk result (built grown.new ≡ extended_if (known self.now) place (built grown.old) (decl_of d.now)) }
-        ensures faults { OnOk result (firsts.new ≡ found_in firsts.old (decl_faults (known self.now) place (decl_of d.now))) }
+        ensures value { OnOk result
+            (built grown.new ≡ extended_if (known self.now) place (built grown.old) (decl_of d.now)) }
+        ensures faults { OnOk result
+            (firsts.new ≡ found_in firsts.old (decl_faults (known self.now) place (decl_of d.now))) }
     {
         let symbols = self.builder.symbols;
         match d {
@@ -224,8 +238,10 @@ impl<'a> Judge<'a> {
     // Checks the declarations, one after another.
     #[tactic(auto, using(resolution::specs::Theory::Leasts::found_append))]
     fn check_decls(&self, grown: &mut ProgramBuilder, firsts: &mut Firsts) -> Result<(), AllocError>
-        ensures value { OnOk result (built grown.new ≡ resolved_from (known self.now) 0 (built grown.old) (known self.now)) }
-        ensures faults { OnOk result (firsts.new ≡ found_in firsts.old (each_faults (known self.now) 0 (known self.now))) }
+        ensures value { OnOk result
+            (built grown.new ≡ resolved_from (known self.now) 0 (built grown.old) (known self.now)) }
+        ensures faults { OnOk result
+            (firsts.new ≡ found_in firsts.old (each_faults (known self.now) 0 (known self.now))) }
     {
         let items = self.builder.symbols.items();
         for (place, d) in items.iter().enumerate() {
@@ -264,7 +280,8 @@ fn check_all(
     grown: &mut ProgramBuilder,
     firsts: &mut Firsts,
 ) -> Result<(), AllocError>
-    ensures value { OnOk result (built grown.new ≡ resolved_from (decls_of symbols.now) 0 (built grown.old) (decls_of symbols.now)) }
+    ensures value { OnOk result
+        (built grown.new ≡ resolved_from (decls_of symbols.now) 0 (built grown.old) (decls_of symbols.now)) }
     ensures faults { OnOk result (firsts.new ≡ found_in firsts.old (judged_faults (decls_of symbols.now))) }
 {
     let check = Judge {

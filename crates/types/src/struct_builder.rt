@@ -60,7 +60,8 @@ impl StructBuilder {
         name: &Name,
         target: Option<usize>,
     ) -> Result<bool, AllocError>
-        ensures { IfOk result (λ right. shaped right self.new ≡ final_added (builder_of self.old) (ident name.now).text target) }
+        ensures { IfOk result
+            (λ right. shaped right self.new ≡ final_added (builder_of self.old) (ident name.now).text target) }
     {
         let Some(target) = target else {
             return Ok(false);
@@ -102,7 +103,8 @@ impl<'a> Builder<'a> {
         m: &Member,
         builder: &mut StructBuilder,
     ) -> Result<bool, AllocError>
-        ensures { IfOk result (λ right. shaped right builder.new ≡ member_added_of self.now here.now builder.old m.now) }
+        ensures { IfOk result
+            (λ right. shaped right builder.new ≡ member_added_of self.now here.now builder.old m.now) }
     {
         match m {
             Member::Lock(name) => {
@@ -134,7 +136,8 @@ impl<'a> Builder<'a> {
         members: &[Member],
         builder: &mut StructBuilder,
     ) -> Result<bool, AllocError>
-        ensures { IfOk result (λ right. shaped right builder.new ≡ members_added_of self.now here.now builder.old members.now) }
+        ensures { IfOk result
+            (λ right. shaped right builder.new ≡ members_added_of self.now here.now builder.old members.now) }
     {
         for m in members {
             if !self.add_member(here, m, builder)? {
@@ -182,7 +185,8 @@ impl<'a> Builder<'a> {
         members: &[Member],
         firsts: &mut Firsts,
     ) -> Result<(), AllocError>
-        ensures { OnOk result (firsts.new ≡ found_in firsts.old (members_faults_of self.now place table.now members.now)) }
+        ensures { OnOk result
+            (firsts.new ≡ found_in firsts.old (members_faults_of self.now place table.now members.now)) }
     {
         for m in members {
             self.report_member(place, table, m, firsts)?;

@@ -130,7 +130,8 @@ fn add_call(
     c: &tree::Call,
     calls: &mut Vec<Call>,
 ) -> Result<bool, AllocError>
-    ensures { IfOk result (λ right. Adds right calls.old.items calls.new.items (resolved_calls (decls_of symbols.now) (call_view c.now))) }
+    ensures { IfOk result (λ right. Adds right calls.old.items calls.new.items
+        (resolved_calls (decls_of symbols.now) (call_view c.now))) }
 {
     match typed_call(alloc, symbols, c)? {
         Some(call) => {
@@ -144,7 +145,8 @@ fn add_call(
 /// Adds a copy of `count` calls from `from` on.
 fn add_again(calls: &mut Vec<Call>, from: usize, count: usize) -> Result<(), AllocError>
     requires { from + count ≤ length calls.old.items }
-    ensures { OnOk result (cores calls.new.items ≡ cores calls.old.items ++ take count (drop from (cores calls.old.items))) }
+    ensures { OnOk result
+        (cores calls.new.items ≡ cores calls.old.items ++ take count (drop from (cores calls.old.items))) }
 {
     for at in 0..count {
         let call = calls[from + at].clone()?;
@@ -156,7 +158,8 @@ fn add_again(calls: &mut Vec<Call>, from: usize, count: usize) -> Result<(), All
 /// Adds copies of the calls from `from` on, the given number of times.
 fn add_copies(calls: &mut Vec<Call>, from: usize, times: u64) -> Result<(), AllocError>
     requires { from ≤ length calls.old.items }
-    ensures { OnOk result (cores calls.new.items ≡ cores calls.old.items ++ copies times (drop from (cores calls.old.items))) }
+    ensures { OnOk result
+        (cores calls.new.items ≡ cores calls.old.items ++ copies times (drop from (cores calls.old.items))) }
 {
     let count = calls.len() - from;
     if count == 0 {
@@ -177,7 +180,8 @@ fn add_item(
     item: &Item,
     calls: &mut Vec<Call>,
 ) -> Result<bool, AllocError>
-    ensures { IfOk result (λ right. Adds right calls.old.items calls.new.items (typed_item (decls_of symbols.now) (item_of item.now))) }
+    ensures { IfOk result
+        (λ right. Adds right calls.old.items calls.new.items (typed_item (decls_of symbols.now) (item_of item.now))) }
 {
     match item {
         Item::Call(c) => add_call(alloc, symbols, c, calls),
@@ -203,7 +207,8 @@ fn add_items(
     items: &[Item],
     calls: &mut Vec<Call>,
 ) -> Result<bool, AllocError>
-    ensures { IfOk result (λ right. Adds right calls.old.items calls.new.items (typed_items (decls_of symbols.now) (items_of items.now))) }
+    ensures { IfOk result (λ right. Adds right calls.old.items calls.new.items
+        (typed_items (decls_of symbols.now) (items_of items.now))) }
 {
     for item in items {
         if !add_item(alloc, symbols, item, calls)? {

@@ -56,7 +56,8 @@ fn values_for(
 ) -> Checked<Vec<Expr>>
     requires { length params.now ≡ length arguments.now }
     ensures value { IfOk result (λ r. values_seen r ≡ values_of (scope checker.now) params.now arguments.now) }
-    ensures faults { OnOk result (firsts.new ≡ found_in firsts.old (values_blamed (scope checker.now) params.now arguments.now)) }
+    ensures faults { OnOk result
+        (firsts.new ≡ found_in firsts.old (values_blamed (scope checker.now) params.now arguments.now)) }
 {
     let mut values = Some(Vec::new(checker.alloc()));
     for i in 0..params.len() {
@@ -88,7 +89,8 @@ fn report_each(
 
 /// The helper that a call names, with its number.
 fn helper_named<'a>(checker: &'a Checker, c: &HelperCall) -> Option<(usize, &'a Section)>
-    ensures { section_seen result ≡ numbered (scope checker.now) (helper_named (scope checker.now) (helper_call_of c.now)) }
+    ensures { section_seen result
+        ≡ numbered (scope checker.now) (helper_named (scope checker.now) (helper_call_of c.now)) }
 {
     let ResolvedName::Decl(place, d) = checker.meaning(&c.helper) else {
         return None;
@@ -125,7 +127,8 @@ fn report_name(checker: &Checker, c: &HelperCall, firsts: &mut Firsts)
 /// wrong number of them, they are not checked.
 fn passed(checker: &Checker, c: &HelperCall, firsts: &mut Firsts) -> Checked<Vec<Expr>>
     ensures value { IfOk result (λ r. values_seen r ≡ passed_seen (scope checker.now) (helper_call_of c.now)) }
-    ensures faults { OnOk result (firsts.new ≡ found_in firsts.old (passed_blamed (scope checker.now) (helper_call_of c.now))) }
+    ensures faults { OnOk result
+        (firsts.new ≡ found_in firsts.old (passed_blamed (scope checker.now) (helper_call_of c.now))) }
 {
     let Some((_, helper)) = helper_named(checker, c) else {
         report_each(checker, &c.arguments, firsts)?;
@@ -164,8 +167,10 @@ pub fn check_call(
     local: Option<usize>,
     firsts: &mut Firsts,
 ) -> Checked<Action>
-    ensures value { IfOk result (λ r. option_map core_action r ≡ call_resolved (scope checker.now) (helper_call_of c.now) local) }
-    ensures faults { OnOk result (firsts.new ≡ found_in firsts.old (helper_call_faults (scope checker.now) (helper_call_of c.now))) }
+    ensures value { IfOk result
+        (λ r. option_map core_action r ≡ call_resolved (scope checker.now) (helper_call_of c.now) local) }
+    ensures faults { OnOk result
+        (firsts.new ≡ found_in firsts.old (helper_call_faults (scope checker.now) (helper_call_of c.now))) }
 {
     report_name(checker, c, firsts);
     let values = passed(checker, c, firsts)?;

@@ -2,9 +2,10 @@
 
 ghost use Rattle.std.specs.Prelude.{◌≡◌, OnOk, None, length, map, option_map};
 ghost use Rattle.syntax.specs.Trees.{ref_type};
-ghost use Rattle.syntax.specs.Views.{ident, decl_of, struct_of, type_of as type_seen};
+ghost use Rattle.syntax.specs.Views.{ident, decl_of, struct_of, class_name_of, type_of as type_seen};
 ghost use Rattle.resolution.specs.Scopes.{meaning, outside, bound, hidden_from, number_at, the_struct, type_of};
 ghost use Rattle.resolution.specs.Expressions.{cell_of};
+ghost use Rattle.resolution.specs.Working.TypedSections.{class_named};
 ghost use Rattle.resolution.specs.Working.Findings.{found_in};
 ghost use Rattle.resolution.specs.Working.FaultLists.{local_faults, type_faults};
 ghost use Rattle.types_symbols.specs.{decls_of, meaning_of, local_seen};
@@ -19,7 +20,8 @@ use source::fault::Code;
 use std::alloc::{AllocError, Global};
 use std::marker::Model;
 use syntax::tree;
-use syntax::tree::{Decl, Name};
+use syntax::tree::{ClassName, Decl, Name};
+use types_symbols::class_named;
 use types_symbols::members::Structure;
 use types_symbols::scope::{
     Local, Locals, ResolvedName, meaning_at, report_local_type, report_type, report_unfit,
@@ -71,6 +73,13 @@ impl<'a> Checker<'a> {
 
     // ---- what names refer to
 
+    /// The lock class of this name. `None` if it does not name a lock field of a struct.
+    pub fn class_named(&self, class: &ClassName) -> Option<usize>
+        ensures { result ≡ class_named (scope self.now).decls (class_name_of class.now) }
+    {
+        class_named(self.symbols, class)
+    }
+
     /// What a name refers to here.
     pub fn meaning(&self, name: &Name) -> ResolvedName<'_>
         ensures { meaning_of result ≡ meaning (scope self.now) (ident name.now).text }
@@ -81,7 +90,8 @@ impl<'a> Checker<'a> {
     /// Notes a name that can't stand here: an unknown one, or one whose declaration has a type without a fault.
     pub fn misplaced<T>(&self, found: Finding, m: ResolvedName, firsts: &mut Firsts) -> Option<T>
         ensures none { result ≡ None }
-        ensures faults { firsts.new ≡ found_in firsts.old (misplaced (scope self.now).decls found (meaning_of m.entry)) }
+        ensures faults { firsts.new ≡ found_in firsts.old
+            (misplaced (scope self.now).decls found (meaning_of m.entry)) }
     {
         match m {
             ResolvedName::Nothing => report(Code::UnknownName, found.start, firsts),
@@ -186,7 +196,8 @@ impl<'a> Checker<'a> {
     /// The type that is written at a parameter, if it has no fault.
     pub fn declared_type(&self, t: &tree::ValueType, firsts: &mut Firsts) -> Option<ValueType>
         ensures value { result ≡ type_of (outside (scope self.now).decls) (type_seen t.now) }
-        ensures faults { firsts.new ≡ found_in firsts.old (type_faults (outside (scope self.now).decls) (type_seen t.now)) }
+        ensures faults { firsts.new ≡ found_in firsts.old
+            (type_faults (outside (scope self.now).decls) (type_seen t.now)) }
     {
         report_type(self.symbols, t, firsts);
         type_outside(self.symbols, t)

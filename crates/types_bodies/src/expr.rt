@@ -85,7 +85,8 @@ impl<'a> Checker<'a> {
     #[cycle(exprs)]
     fn joined(&self, e: &Joined, firsts: &mut Firsts) -> Checked<ResolvedExpr>
         ensures value { IfOk result (λ r. option_map resolved_expr_of r ≡ typed (scope self.now) (joined_of e.now)) }
-        ensures faults { OnOk result (firsts.new ≡ found_in firsts.old (expr_faults (scope self.now) (joined_of e.now))) }
+        ensures faults { OnOk result
+            (firsts.new ≡ found_in firsts.old (expr_faults (scope self.now) (joined_of e.now))) }
     {
         match e {
             Joined::Pair(op, left, right) => match op.level() {
@@ -125,8 +126,10 @@ impl<'a> Checker<'a> {
         right: &tree::Expr,
         firsts: &mut Firsts,
     ) -> Checked<ResolvedExpr>
-        ensures value { IfOk result (λ r. option_map resolved_expr_of r ≡ chain_from (scope self.now) first (one_link op (expr_of right.now))) }
-        ensures faults { OnOk result (firsts.new ≡ found_in firsts.old (second_faults (scope self.now) Sum op (expr_of right.now))) }
+        ensures value { IfOk result
+            (λ r. option_map resolved_expr_of r ≡ chain_from (scope self.now) first (one_link op (expr_of right.now))) }
+        ensures faults { OnOk result
+            (firsts.new ≡ found_in firsts.old (second_faults (scope self.now) Sum op (expr_of right.now))) }
     {
         let Ok(rest) = self.operation(op, right, firsts) else {
             drop(first);
@@ -144,8 +147,10 @@ impl<'a> Checker<'a> {
         right: &tree::Expr,
         firsts: &mut Firsts,
     ) -> Checked<ResolvedExpr>
-        ensures value { IfOk result (λ r. option_map resolved_expr_of r ≡ both_tests (scope self.now) first op (expr_of right.now)) }
-        ensures faults { OnOk result (firsts.new ≡ found_in firsts.old (second_faults (scope self.now) Conjunction op (expr_of right.now))) }
+        ensures value { IfOk result
+            (λ r. option_map resolved_expr_of r ≡ both_tests (scope self.now) first op (expr_of right.now)) }
+        ensures faults { OnOk result
+            (firsts.new ≡ found_in firsts.old (second_faults (scope self.now) Conjunction op (expr_of right.now))) }
     {
         let one = one_test(self.alloc(), first, 1)?;
         let Ok(operand) = self.test(right, firsts) else {
@@ -164,8 +169,10 @@ impl<'a> Checker<'a> {
         links: &[Link],
         firsts: &mut Firsts,
     ) -> Checked<ResolvedExpr>
-        ensures value { IfOk result (λ r. option_map resolved_expr_of r ≡ chain_from (scope self.now) first (links_of links.now)) }
-        ensures faults { OnOk result (firsts.new ≡ found_in firsts.old (link_faults (scope self.now) Sum (links_of links.now))) }
+        ensures value { IfOk result
+            (λ r. option_map resolved_expr_of r ≡ chain_from (scope self.now) first (links_of links.now)) }
+        ensures faults { OnOk result
+            (firsts.new ≡ found_in firsts.old (link_faults (scope self.now) Sum (links_of links.now))) }
     {
         let Ok(rest) = self.operations(links, firsts) else {
             drop(first);
@@ -183,8 +190,10 @@ impl<'a> Checker<'a> {
         right: &tree::Expr,
         firsts: &mut Firsts,
     ) -> Checked<ResolvedExpr>
-        ensures value { IfOk result (λ r. option_map resolved_expr_of r ≡ compared c (seen left) (typed (scope self.now) (expr_of right.now))) }
-        ensures faults { OnOk result (firsts.new ≡ found_in firsts.old (right_faults (scope self.now) c left (expr_of right.now))) }
+        ensures value { IfOk result
+            (λ r. option_map resolved_expr_of r ≡ compared c (seen left) (typed (scope self.now) (expr_of right.now))) }
+        ensures faults { OnOk result
+            (firsts.new ≡ found_in firsts.old (right_faults (scope self.now) c left (expr_of right.now))) }
     {
         let Ok(right) = self.side(side_want(c), right, firsts) else {
             drop(left);
@@ -196,8 +205,10 @@ impl<'a> Checker<'a> {
     // An element as a value.
     #[cycle(exprs)]
     fn element(&self, element: &Element, firsts: &mut Firsts) -> Checked<ResolvedExpr>
-        ensures value { IfOk result (λ r. option_map resolved_expr_of r ≡ typed_place (scope self.now) (element_of element.now)) }
-        ensures faults { OnOk result (firsts.new ≡ found_in firsts.old (place_faults (scope self.now) (element_of element.now))) }
+        ensures value { IfOk result
+            (λ r. option_map resolved_expr_of r ≡ typed_place (scope self.now) (element_of element.now)) }
+        ensures faults { OnOk result
+            (firsts.new ≡ found_in firsts.old (place_faults (scope self.now) (element_of element.now))) }
     {
         let start = element.name.start as usize;
         let indexed = self.indexed(start, self.meaning(&element.name), firsts);
@@ -207,8 +218,10 @@ impl<'a> Checker<'a> {
 
     // A path as a value.
     fn path(&self, path: &Path, firsts: &mut Firsts) -> Checked<ResolvedExpr>
-        ensures value { IfOk result (λ r. option_map resolved_expr_of r ≡ typed_place (scope self.now) (path_of path.now)) }
-        ensures faults { OnOk result (firsts.new ≡ found_in firsts.old (place_faults (scope self.now) (path_of path.now))) }
+        ensures value { IfOk result
+            (λ r. option_map resolved_expr_of r ≡ typed_place (scope self.now) (path_of path.now)) }
+        ensures faults { OnOk result
+            (firsts.new ≡ found_in firsts.old (place_faults (scope self.now) (path_of path.now))) }
     {
         let start = path.first.start as usize;
         let m = self.meaning(&path.first);
@@ -224,8 +237,10 @@ impl<'a> Checker<'a> {
         operand: &tree::Expr,
         firsts: &mut Firsts,
     ) -> Checked<Vec<Operation>>
-        ensures value { IfOk result (λ r. operations_of r ≡ typed_links (scope self.now) (one_link op (expr_of operand.now))) }
-        ensures faults { OnOk result (firsts.new ≡ found_in firsts.old (second_faults (scope self.now) Sum op (expr_of operand.now))) }
+        ensures value { IfOk result
+            (λ r. operations_of r ≡ typed_links (scope self.now) (one_link op (expr_of operand.now))) }
+        ensures faults { OnOk result
+            (firsts.new ≡ found_in firsts.old (second_faults (scope self.now) Sum op (expr_of operand.now))) }
     {
         let operator = operator(op, start_of(operand), firsts);
         let number = self.number(operand, firsts)?;
@@ -240,7 +255,8 @@ impl<'a> Checker<'a> {
     #[cycle(exprs)]
     fn operations(&self, links: &[Link], firsts: &mut Firsts) -> Checked<Vec<Operation>>
         ensures value { IfOk result (λ r. operations_of r ≡ typed_links (scope self.now) (links_of links.now)) }
-        ensures faults { OnOk result (firsts.new ≡ found_in firsts.old (link_faults (scope self.now) Sum (links_of links.now))) }
+        ensures faults { OnOk result
+            (firsts.new ≡ found_in firsts.old (link_faults (scope self.now) Sum (links_of links.now))) }
     {
         let mut operations = Some(Vec::with_capacity(self.alloc(), links.len())?);
         for link in links {
@@ -257,8 +273,10 @@ impl<'a> Checker<'a> {
     // The further operands of a chain of conditions, after the first.
     #[cycle(exprs)]
     fn tests(&self, first: Option<Condition>, links: &[Link], firsts: &mut Firsts) -> Checked<Tests>
-        ensures value { IfOk result (λ r. option_map tests_of r ≡ tests_from (scope self.now) first (links_of links.now)) }
-        ensures faults { OnOk result (firsts.new ≡ found_in firsts.old (link_faults (scope self.now) Conjunction (links_of links.now))) }
+        ensures value { IfOk result
+            (λ r. option_map tests_of r ≡ tests_from (scope self.now) first (links_of links.now)) }
+        ensures faults { OnOk result
+            (firsts.new ≡ found_in firsts.old (link_faults (scope self.now) Conjunction (links_of links.now))) }
     {
         let mut tests = one_test(self.alloc(), first, links.len())?;
         for link in links {
@@ -275,8 +293,10 @@ impl<'a> Checker<'a> {
     #[cycle(exprs)]
     fn side(&self, w: Want, e: &tree::Expr, firsts: &mut Firsts) -> Result<Side, AllocError>
         ensures start { IfOk result (λ s. s.start ≡ start_of (expr_of e.now)) }
-        ensures value { IfOk result (λ s. option_map resolved_expr_of s.value ≡ typed (scope self.now) (expr_of e.now)) }
-        ensures faults { OnOk result (firsts.new ≡ found_in firsts.old (wanted_faults (scope self.now) w (expr_of e.now))) }
+        ensures value { IfOk result
+            (λ s. option_map resolved_expr_of s.value ≡ typed (scope self.now) (expr_of e.now)) }
+        ensures faults { OnOk result
+            (firsts.new ≡ found_in firsts.old (wanted_faults (scope self.now) w (expr_of e.now))) }
     {
         let value = self.expr(e, firsts)?;
         let start = start_of(e);
@@ -286,8 +306,10 @@ impl<'a> Checker<'a> {
 
     /// A value of which something is expected.
     pub fn value(&self, w: Want, e: &tree::Expr, firsts: &mut Firsts) -> Checked<Expr>
-        ensures value { IfOk result (λ r. option_map core_expr r ≡ as_value (fitting w (typed (scope self.now) (expr_of e.now)))) }
-        ensures faults { OnOk result (firsts.new ≡ found_in firsts.old (wanted_faults (scope self.now) w (expr_of e.now))) }
+        ensures value { IfOk result
+            (λ r. option_map core_expr r ≡ as_value (fitting w (typed (scope self.now) (expr_of e.now)))) }
+        ensures faults { OnOk result
+            (firsts.new ≡ found_in firsts.old (wanted_faults (scope self.now) w (expr_of e.now))) }
     {
         let side = self.side(w, e, firsts)?;
         Ok(value_in(w, side.value))
@@ -296,8 +318,10 @@ impl<'a> Checker<'a> {
     /// A number.
     #[cycle(exprs)]
     pub fn number(&self, e: &tree::Expr, firsts: &mut Firsts) -> Checked<Expr>
-        ensures value { IfOk result (λ r. option_map core_expr r ≡ number_resolved (typed (scope self.now) (expr_of e.now))) }
-        ensures faults { OnOk result (firsts.new ≡ found_in firsts.old (wanted_faults (scope self.now) (wanted.Value Integer) (expr_of e.now))) }
+        ensures value { IfOk result
+            (λ r. option_map core_expr r ≡ number_resolved (typed (scope self.now) (expr_of e.now))) }
+        ensures faults { OnOk result
+            (firsts.new ≡ found_in firsts.old (wanted_faults (scope self.now) (wanted.Value Integer) (expr_of e.now))) }
     {
         let side = self.side(Want::Value(ValueType::Integer), e, firsts)?;
         Ok(number_in(side.value))
@@ -306,8 +330,10 @@ impl<'a> Checker<'a> {
     /// A condition.
     #[cycle(exprs)]
     pub fn test(&self, e: &tree::Expr, firsts: &mut Firsts) -> Checked<Condition>
-        ensures value { IfOk result (λ r. option_map core_condition r ≡ test_resolved (typed (scope self.now) (expr_of e.now))) }
-        ensures faults { OnOk result (firsts.new ≡ found_in firsts.old (wanted_faults (scope self.now) wanted.Condition (expr_of e.now))) }
+        ensures value { IfOk result
+            (λ r. option_map core_condition r ≡ test_resolved (typed (scope self.now) (expr_of e.now))) }
+        ensures faults { OnOk result
+            (firsts.new ≡ found_in firsts.old (wanted_faults (scope self.now) wanted.Condition (expr_of e.now))) }
     {
         let side = self.side(Want::Condition, e, firsts)?;
         Ok(test_in(side.value))

@@ -165,8 +165,10 @@ pub fn owned_by(
     firsts: &mut Firsts,
 ) -> Result<Opening, AllocError>
     ensures value_type { IfOk result (λ r. r.value_type ≡ opening.value_type) }
-    ensures value { IfOk result (λ r. option_map core_expr r.value ≡ owned_opening (scope checker.now) opening (owner_of owner.now)) }
-    ensures faults { OnOk result (firsts.new ≡ found_in firsts.old (opening_faults (scope checker.now) opening (owner_of owner.now))) }
+    ensures value { IfOk result
+        (λ r. option_map core_expr r.value ≡ owned_opening (scope checker.now) opening (owner_of owner.now)) }
+    ensures faults { OnOk result
+        (firsts.new ≡ found_in firsts.old (opening_faults (scope checker.now) opening (owner_of owner.now))) }
 {
     let Opening { value_type, value } = opening;
     let field = owner_field(checker, value_type, &owner.field, firsts);

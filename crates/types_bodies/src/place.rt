@@ -127,7 +127,8 @@ pub fn path_value(start: usize, m: ResolvedName, w: Walk) -> Option<ResolvedExpr
 impl<'a> Checker<'a> {
     /// A name as a value, by what it refers to.
     pub fn named(&self, start: usize, m: ResolvedName, firsts: &mut Firsts) -> Option<ResolvedExpr>
-        ensures value { option_map resolved_expr_of result ≡ named_value (scope self.now).decls start (meaning_of m.entry) }
+        ensures value { option_map resolved_expr_of result
+            ≡ named_value (scope self.now).decls start (meaning_of m.entry) }
         ensures faults { firsts.new ≡ found_in firsts.old (no_value (scope self.now).decls start (meaning_of m.entry)) }
     {
         match m {
@@ -150,7 +151,8 @@ impl<'a> Checker<'a> {
     /// The array or pool that a name refers to.
     pub fn indexed(&self, start: usize, m: ResolvedName, firsts: &mut Firsts) -> Option<Indexed>
         ensures value { result ≡ indexed_by (scope self.now).decls (meaning_of m.entry) }
-        ensures faults { firsts.new ≡ found_in firsts.old (no_elements (scope self.now).decls start (meaning_of m.entry)) }
+        ensures faults { firsts.new ≡ found_in firsts.old
+            (no_elements (scope self.now).decls start (meaning_of m.entry)) }
     {
         match m {
             ResolvedName::Decl(place, d) => match d {
@@ -184,8 +186,10 @@ impl<'a> Checker<'a> {
         f: &Name,
         firsts: &mut Firsts,
     ) -> Result<Walk, AllocError>
-        ensures value { IfOk result (λ r. walk_of r ≡ over_field (scope self.now).decls steps.items structure (ident f.now)) }
-        ensures faults { OnOk result (firsts.new ≡ found_in firsts.old (no_field (the_struct (scope self.now).decls structure) (ident f.now))) }
+        ensures value { IfOk result
+            (λ r. walk_of r ≡ over_field (scope self.now).decls steps.items structure (ident f.now)) }
+        ensures faults { OnOk result
+            (firsts.new ≡ found_in firsts.old (no_field (the_struct (scope self.now).decls structure) (ident f.now))) }
     {
         let Some(members) = self.structure(structure) else {
             return Ok(Walk::Lost);
@@ -217,7 +221,8 @@ impl<'a> Checker<'a> {
         firsts: &mut Firsts,
     ) -> Result<Walk, AllocError>
         ensures value { IfOk result (λ r. walk_of r ≡ stepped (scope self.now).decls (walk_of w) (ident f.now)) }
-        ensures faults { OnOk result (firsts.new ≡ found_in firsts.old (step_faults (scope self.now).decls start (walk_of w) (ident f.now))) }
+        ensures faults { OnOk result
+            (firsts.new ≡ found_in firsts.old (step_faults (scope self.now).decls start (walk_of w) (ident f.now))) }
     {
         match w {
             Walk::Reached(steps, t) => match t {
@@ -251,8 +256,10 @@ impl<'a> Checker<'a> {
         fields: &[Name],
         firsts: &mut Firsts,
     ) -> Result<Walk, AllocError>
-        ensures value { IfOk result (λ r. walk_of r ≡ walked (scope self.now).decls (walk_of w) (map ident fields.now)) }
-        ensures faults { OnOk result (firsts.new ≡ found_in firsts.old (fields_faults (scope self.now).decls start (walk_of w) fields.now)) }
+        ensures value { IfOk result
+            (λ r. walk_of r ≡ walked (scope self.now).decls (walk_of w) (map ident fields.now)) }
+        ensures faults { OnOk result
+            (firsts.new ≡ found_in firsts.old (fields_faults (scope self.now).decls start (walk_of w) fields.now)) }
     {
         let mut reached = w;
         for f in fields {
@@ -270,8 +277,10 @@ impl<'a> Checker<'a> {
         fields: &[Name],
         firsts: &mut Firsts,
     ) -> Result<Walk, AllocError>
-        ensures value { IfOk result (λ r. walk_of r ≡ walk_from (scope self.now).decls (meaning_of m.entry) (map ident fields.now)) }
-        ensures faults { OnOk result (firsts.new ≡ found_in firsts.old (way_faults (scope self.now).decls start (meaning_of m.entry) fields.now)) }
+        ensures value { IfOk result
+            (λ r. walk_of r ≡ walk_from (scope self.now).decls (meaning_of m.entry) (map ident fields.now)) }
+        ensures faults { OnOk result (firsts.new ≡ found_in firsts.old
+            (way_faults (scope self.now).decls start (meaning_of m.entry) fields.now)) }
     {
         match m {
             ResolvedName::Local(_, local) => {

@@ -238,7 +238,8 @@ pub fn chained(
     first: Option<Expr>,
     rest: Option<Vec<Operation>>,
 ) -> Checked<ResolvedExpr>
-    ensures { IfOk result (λ r. option_map resolved_expr_of r ≡ chained (option_map core_expr first) (operations_of rest)) }
+    ensures { IfOk result
+        (λ r. option_map resolved_expr_of r ≡ chained (option_map core_expr first) (operations_of rest)) }
 {
     let Some((first, rest)) = first.zip(rest) else {
         return Ok(None);
@@ -340,14 +341,16 @@ fn comparison(c: Comparison, a: Option<Expr>, b: Option<Expr>) -> Option<Resolve
 
 /// A comparison of two numbers.
 fn ordered(c: Comparison, left: Side, right: Side) -> Option<ResolvedExpr>
-    ensures { option_map resolved_expr_of result ≡ ordered c (number_resolved (seen left)) (number_resolved (seen right)) }
+    ensures { option_map resolved_expr_of result
+        ≡ ordered c (number_resolved (seen left)) (number_resolved (seen right)) }
 {
     comparison(c, number_in(left.value), number_in(right.value))
 }
 
 /// Notes sides that `==` can't compare.
 fn report_unlike(left: &Side, right: &Side, firsts: &mut Firsts)
-    ensures { firsts.new ≡ found_in firsts.old (unlike left.now.start right.now.start (seen left.now) (seen right.now)) }
+    ensures { firsts.new ≡ found_in firsts.old
+        (unlike left.now.start right.now.start (seen left.now) (seen right.now)) }
 {
     let (Some(one), Some(other)) = (&left.value, &right.value) else {
         return;

@@ -172,7 +172,8 @@ fn choose_between(
     block: Option<Vec<Stmt>>,
     otherwise: Option<Vec<Stmt>>,
 ) -> Option<Part>
-    ensures { option_map part_of result ≡ chooses_between start (test_seen condition) (block_seen block) (block_seen otherwise) }
+    ensures { option_map part_of result
+        ≡ chooses_between start (test_seen condition) (block_seen block) (block_seen otherwise) }
 {
     let Some((condition, (block, otherwise))) = condition.zip(block.zip(otherwise)) else {
         return None;
@@ -205,7 +206,8 @@ fn block_of(body: Option<BlockChecker>) -> Option<Vec<Stmt>>
 
 /// A body without a `return`, of these statements and one more.
 fn one_longer(stmts: Vec<Stmt>, stmt: Stmt) -> Checked<BlockChecker>
-    ensures { IfOk result (λ r. option_map row_of r ≡ pushed_to (map core_stmt stmts.items) None (does (core_stmt stmt))) }
+    ensures { IfOk result
+        (λ r. option_map row_of r ≡ pushed_to (map core_stmt stmts.items) None (does (core_stmt stmt))) }
 {
     let mut stmts = stmts;
     if let Err(e) = stmts.push(stmt) {
@@ -260,8 +262,10 @@ fn first_value(
     firsts: &mut Firsts,
 ) -> Result<Opening, AllocError>
     ensures value_type { IfOk result (λ r. r.value_type ≡ type_of (scope checker.now) (local_of local.now).value_type) }
-    ensures value { IfOk result (λ r. option_map core_expr r.value ≡ first_value (scope checker.now) (local_of local.now)) }
-    ensures faults { OnOk result (firsts.new ≡ found_in firsts.old (binding_faults (scope checker.now) (local_of local.now))) }
+    ensures value { IfOk result
+        (λ r. option_map core_expr r.value ≡ first_value (scope checker.now) (local_of local.now)) }
+    ensures faults { OnOk result
+        (firsts.new ≡ found_in firsts.old (binding_faults (scope checker.now) (local_of local.now))) }
 {
     checker.report_name(&local.name, firsts);
     let value_type = checker.local_type(&local.value_type, firsts);
@@ -277,8 +281,10 @@ fn bind_next(
     local: &tree::Local,
     opening: Opening,
 ) -> Checked<Part>
-    ensures value { IfOk result (λ r. option_map part_of r ≡ next_bound (scope checker.old) (local_of local.now) opening) }
-    ensures scope { OnOk result (scope checker.new ≡ bound (scope checker.old) kind (ident local.now.name) opening.value_type) }
+    ensures value { IfOk result
+        (λ r. option_map part_of r ≡ next_bound (scope checker.old) (local_of local.now) opening) }
+    ensures scope { OnOk result
+        (scope checker.new ≡ bound (scope checker.old) kind (ident local.now.name) opening.value_type) }
 {
     let Opening { value_type, value } = opening;
     let number = checker.next();
@@ -297,7 +303,8 @@ fn check_local(
     firsts: &mut Firsts,
 ) -> Checked<Part>
     ensures value { IfOk result (λ r. option_map part_of r ≡ local_bound (scope checker.old) (local_of local.now)) }
-    ensures faults { OnOk result (firsts.new ≡ found_in firsts.old (binding_faults (scope checker.old) (local_of local.now))) }
+    ensures faults { OnOk result
+        (firsts.new ≡ found_in firsts.old (binding_faults (scope checker.old) (local_of local.now))) }
     ensures scope { OnOk result (scope checker.new ≡ behind_local (scope checker.old) kind (local_of local.now)) }
 {
     let opening = first_value(checker, local, firsts)?;
@@ -312,8 +319,10 @@ fn check_owned(
     owner: &tree::OwnerClause,
     firsts: &mut Firsts,
 ) -> Checked<Part>
-    ensures value { IfOk result (λ r. option_map part_of r ≡ owned_bound (scope checker.old) (local_of local.now) (owner_of owner.now)) }
-    ensures faults { OnOk result (firsts.new ≡ found_in firsts.old (owned_faults (scope checker.old) (local_of local.now) (owner_of owner.now))) }
+    ensures value { IfOk result
+        (λ r. option_map part_of r ≡ owned_bound (scope checker.old) (local_of local.now) (owner_of owner.now)) }
+    ensures faults { OnOk result (firsts.new ≡ found_in firsts.old
+        (owned_faults (scope checker.old) (local_of local.now) (owner_of owner.now))) }
     ensures scope { OnOk result (scope checker.new ≡ behind_local (scope checker.old) Let (local_of local.now)) }
 {
     let opening = first_value(checker, local, firsts)?;
@@ -328,8 +337,10 @@ fn check_called(
     local: &tree::CalledLocal,
     firsts: &mut Firsts,
 ) -> Checked<Part>
-    ensures value { IfOk result (λ r. option_map part_of r ≡ called_bound (scope checker.old) (called_local_of local.now)) }
-    ensures faults { OnOk result (firsts.new ≡ found_in firsts.old (called_faults (scope checker.old) (called_local_of local.now))) }
+    ensures value { IfOk result
+        (λ r. option_map part_of r ≡ called_bound (scope checker.old) (called_local_of local.now)) }
+    ensures faults { OnOk result
+        (firsts.new ≡ found_in firsts.old (called_faults (scope checker.old) (called_local_of local.now))) }
     ensures scope { OnOk result (scope checker.new ≡ behind_called (scope checker.old) (called_local_of local.now)) }
 {
     checker.report_name(&local.name, firsts);
@@ -351,8 +362,10 @@ fn check_assignment(
     e: &tree::Expr,
     firsts: &mut Firsts,
 ) -> Checked<Part>
-    ensures value { IfOk result (λ r. option_map part_of r ≡ typed_stmt (scope checker.now) (assign (place_of p.now) (expr_of e.now))) }
-    ensures faults { OnOk result (firsts.new ≡ found_in firsts.old (stmt_faults (scope checker.now) (assign (place_of p.now) (expr_of e.now)))) }
+    ensures value { IfOk result
+        (λ r. option_map part_of r ≡ typed_stmt (scope checker.now) (assign (place_of p.now) (expr_of e.now))) }
+    ensures faults { OnOk result
+        (firsts.new ≡ found_in firsts.old (stmt_faults (scope checker.now) (assign (place_of p.now) (expr_of e.now)))) }
 {
     let assignee = check_target(checker, p, firsts)?;
     let Ok(value) = checker.value(wanted_by(&assignee), e, firsts) else {
@@ -400,7 +413,8 @@ fn check_repetition(
     firsts: &mut Firsts,
 ) -> Checked<Part>
     ensures value { IfOk result (λ r. option_map part_of r ≡ typed_stmt (scope checker.old) (while_of repetition.now)) }
-    ensures faults { OnOk result (firsts.new ≡ found_in firsts.old (stmt_faults (scope checker.old) (while_of repetition.now))) }
+    ensures faults { OnOk result
+        (firsts.new ≡ found_in firsts.old (stmt_faults (scope checker.old) (while_of repetition.now))) }
     ensures scope { OnOk result (scope checker.new ≡ after (scope checker.old) (while_of repetition.now)) }
 {
     let condition = checker.test(&repetition.condition, firsts)?;
@@ -415,7 +429,8 @@ fn check_repetition(
 #[cycle(stmts)]
 fn check_choice(checker: &mut Checker, choice: &tree::If, firsts: &mut Firsts) -> Checked<Part>
     ensures value { IfOk result (λ r. option_map part_of r ≡ typed_stmt (scope checker.old) (if_of choice.now)) }
-    ensures faults { OnOk result (firsts.new ≡ found_in firsts.old (stmt_faults (scope checker.old) (if_of choice.now))) }
+    ensures faults { OnOk result
+        (firsts.new ≡ found_in firsts.old (stmt_faults (scope checker.old) (if_of choice.now))) }
     ensures scope { OnOk result (scope checker.new ≡ after (scope checker.old) (if_of choice.now)) }
 {
     let condition = checker.test(&choice.condition, firsts)?;
@@ -445,8 +460,10 @@ fn check_otherwise(
     choice: Choice,
     firsts: &mut Firsts,
 ) -> Checked<Part>
-    ensures value { IfOk result (λ r. option_map part_of r ≡ choice_with (scope checker.old) choice (else_of other.now)) }
-    ensures faults { OnOk result (firsts.new ≡ found_in firsts.old (else_faults (scope checker.old) (else_of other.now))) }
+    ensures value { IfOk result
+        (λ r. option_map part_of r ≡ choice_with (scope checker.old) choice (else_of other.now)) }
+    ensures faults { OnOk result
+        (firsts.new ≡ found_in firsts.old (else_faults (scope checker.old) (else_of other.now))) }
     ensures scope { OnOk result (scope checker.new ≡ after_else (scope checker.old) (else_of other.now)) }
 {
     let Choice {
@@ -473,9 +490,12 @@ fn check_block(
     block: &tree::Block,
     firsts: &mut Firsts,
 ) -> Checked<Vec<Stmt>>
-    ensures value { IfOk result (λ r. block_seen r ≡ block_of (typed_body (scope checker.old) (stmts_of block.now.stmts.items))) }
-    ensures faults { OnOk result (firsts.new ≡ found_in firsts.old (stmts_faults (scope checker.old) (stmts_of block.now.stmts.items))) }
-    ensures scope { OnOk result (scope checker.new ≡ behind_block (scope checker.old) (stmts_of block.now.stmts.items)) }
+    ensures value { IfOk result
+        (λ r. block_seen r ≡ block_of (typed_body (scope checker.old) (stmts_of block.now.stmts.items))) }
+    ensures faults { OnOk result
+        (firsts.new ≡ found_in firsts.old (stmts_faults (scope checker.old) (stmts_of block.now.stmts.items))) }
+    ensures scope { OnOk result
+        (scope checker.new ≡ behind_block (scope checker.old) (stmts_of block.now.stmts.items)) }
 {
     let ahead = checker.next();
     let body = check_body(checker, &block.stmts, firsts)?;
@@ -491,7 +511,8 @@ pub fn check_body(
     firsts: &mut Firsts,
 ) -> Checked<BlockChecker>
     ensures value { IfOk result (λ r. option_map body_of r ≡ typed_body (scope checker.old) (stmts_of stmts.now)) }
-    ensures faults { OnOk result (firsts.new ≡ found_in firsts.old (stmts_faults (scope checker.old) (stmts_of stmts.now))) }
+    ensures faults { OnOk result
+        (firsts.new ≡ found_in firsts.old (stmts_faults (scope checker.old) (stmts_of stmts.now))) }
     ensures scope { OnOk result (scope checker.new ≡ after_all (scope checker.old) (stmts_of stmts.now)) }
 {
     let mut body = Some(BlockChecker {

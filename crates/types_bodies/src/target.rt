@@ -166,7 +166,8 @@ fn array_at(
     firsts: &mut Firsts,
 ) -> Option<Indexed>
     ensures value { result ≡ indexed_by (scope checker.now).decls (meaning_of m.entry) }
-    ensures faults { firsts.new ≡ found_in firsts.old (element_faults (scope checker.now).decls start (meaning_of m.entry)) }
+    ensures faults { firsts.new ≡ found_in firsts.old
+        (element_faults (scope checker.now).decls start (meaning_of m.entry)) }
 {
     let indexed = checker.indexed(start, m, firsts);
     if let Some(Indexed::Pool(_, _)) = indexed {
@@ -180,8 +181,10 @@ fn array_at(
 
 /// An element on the left, with the faults of its index.
 fn element_target(checker: &Checker, element: &Element, firsts: &mut Firsts) -> Checked<Assignee>
-    ensures value { IfOk result (λ r. option_map assignee_of r ≡ target_of (scope checker.now) (element_of element.now)) }
-    ensures faults { OnOk result (firsts.new ≡ found_in firsts.old (target_faults (scope checker.now) (element_of element.now))) }
+    ensures value { IfOk result
+        (λ r. option_map assignee_of r ≡ target_of (scope checker.now) (element_of element.now)) }
+    ensures faults { OnOk result
+        (firsts.new ≡ found_in firsts.old (target_faults (scope checker.now) (element_of element.now))) }
 {
     let start = element.name.start as usize;
     let array = array_at(checker, start, checker.meaning(&element.name), firsts);
@@ -192,7 +195,8 @@ fn element_target(checker: &Checker, element: &Element, firsts: &mut Firsts) -> 
 /// A path on the left.
 fn path_target(checker: &Checker, path: &tree::Path, firsts: &mut Firsts) -> Checked<Assignee>
     ensures value { IfOk result (λ r. option_map assignee_of r ≡ target_of (scope checker.now) (path_of path.now)) }
-    ensures faults { OnOk result (firsts.new ≡ found_in firsts.old (target_faults (scope checker.now) (path_of path.now))) }
+    ensures faults { OnOk result
+        (firsts.new ≡ found_in firsts.old (target_faults (scope checker.now) (path_of path.now))) }
 {
     let start = path.first.start as usize;
     let m = checker.meaning(&path.first);
@@ -203,7 +207,8 @@ fn path_target(checker: &Checker, path: &tree::Path, firsts: &mut Firsts) -> Che
 /// Checks the left side of an assignment. Returns its target, if it can be assigned to.
 pub fn check_target(checker: &Checker, p: &Place, firsts: &mut Firsts) -> Checked<Assignee>
     ensures value { IfOk result (λ r. option_map assignee_of r ≡ target_of (scope checker.now) (place_of p.now)) }
-    ensures faults { OnOk result (firsts.new ≡ found_in firsts.old (target_faults (scope checker.now) (place_of p.now))) }
+    ensures faults { OnOk result
+        (firsts.new ≡ found_in firsts.old (target_faults (scope checker.now) (place_of p.now))) }
 {
     match p {
         Place::Name(name) => {

@@ -7,6 +7,7 @@ pub mod Given
 pub mod Giving
 pub mod Hiding
 pub mod Items
+pub mod ListedNames
 pub mod Named
 pub mod Structs
 pub mod Sums

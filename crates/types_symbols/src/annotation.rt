@@ -110,7 +110,8 @@ pub fn report_lock(
     p: &Option<tree::Protection>,
     firsts: &mut Firsts,
 )
-    ensures { firsts.new ≡ found_in firsts.old (lock_faults (decls_of symbols.now) name.now.start (option_of protection_view p.now)) }
+    ensures { firsts.new ≡ found_in firsts.old
+        (lock_faults (decls_of symbols.now) name.now.start (option_of protection_view p.now)) }
 {
     match p {
         Some(p) => report_global_lock(symbols, &p.first, &p.rest, firsts),
@@ -126,7 +127,8 @@ impl<'a, 't> AnnotationWalk<'a, 't> {
         number: u32,
         target: &Name,
     ) -> Result<Option<AnnotationCursor<'a, 't>>, AllocError>
-        ensures { IfOk result (λ r. cursor_seen r ≡ at_struct through.items number (decl_named self.now.symbols.now target.now)) }
+        ensures { IfOk result
+            (λ r. cursor_seen r ≡ at_struct through.items number (decl_named self.now.symbols.now target.now)) }
     {
         let Some((place, structure)) = self.symbols.struct_of(target) else {
             drop(through);
@@ -150,7 +152,8 @@ impl<'a, 't> AnnotationWalk<'a, 't> {
         cursor: Option<AnnotationCursor<'a, 't>>,
         y: &Name,
     ) -> Result<Option<AnnotationCursor<'a, 't>>, AllocError>
-        ensures { IfOk result (λ r. cursor_seen r ≡ stepped_on (decls_of self.now.symbols.now) (cursor_seen cursor.entry) (ident y.now)) }
+        ensures { IfOk result
+            (λ r. cursor_seen r ≡ stepped_on (decls_of self.now.symbols.now) (cursor_seen cursor.entry) (ident y.now)) }
     {
         let Some(cursor) = cursor else {
             return Ok(None);
@@ -173,7 +176,8 @@ impl<'a, 't> AnnotationWalk<'a, 't> {
 
     // The protection at the walk's end, which has to be a lock field.
     fn ended(&self, cursor: Option<AnnotationCursor>, y: &Name) -> Option<Protection>
-        ensures { option_map core_protection result ≡ ended (decls_of self.now.symbols.now) (cursor_seen cursor.entry) (ident y.now) }
+        ensures { option_map core_protection result
+            ≡ ended (decls_of self.now.symbols.now) (cursor_seen cursor.entry) (ident y.now) }
     {
         let cursor = cursor?;
         let Some((place, m)) = cursor.structure.find(y.text.as_str()) else {
@@ -202,7 +206,8 @@ impl<'a, 't> AnnotationWalk<'a, 't> {
         first: &Name,
         rest: &[Name],
     ) -> Result<Option<Protection>, AllocError>
-        ensures { IfOk result (λ r. option_map core_protection r ≡ protection_along self.now cursor.entry first.now rest.now) }
+        ensures { IfOk result
+            (λ r. option_map core_protection r ≡ protection_along self.now cursor.entry first.now rest.now) }
     {
         let mut cursor = cursor;
         let mut y = first;
@@ -258,7 +263,8 @@ impl<'a, 't> AnnotationWalk<'a, 't> {
         rest: &[Name],
         firsts: &mut Firsts,
     ) -> Result<(), AllocError>
-        ensures { OnOk result (firsts.new ≡ found_in firsts.old (faults_along self.now cursor.entry first.now rest.now)) }
+        ensures { OnOk result
+            (firsts.new ≡ found_in firsts.old (faults_along self.now cursor.entry first.now rest.now)) }
     {
         let mut cursor = cursor;
         let mut y = first;

@@ -236,7 +236,8 @@ fn check_struct<'t>(
     structs: &mut Vec<Structure<'t>>,
     firsts: &mut Firsts,
 ) -> Result<(), AllocError>
-    ensures structs { OnOk result (map struct_of structs.new.items ≡ map struct_of structs.old.items ++ structs_in (decl_of d.now ∷ [])) }
+    ensures structs { OnOk result
+        (map struct_of structs.new.items ≡ map struct_of structs.old.items ++ structs_in (decl_of d.now ∷ [])) }
     ensures faults { OnOk result (firsts.new ≡ found_in firsts.old (struct_faults (decl_of d.now ∷ []))) }
 {
     let Decl::Struct(item) = d else {
@@ -344,7 +345,8 @@ impl<'t> Declarations<'t> {
     /// The struct that `name` refers to outside of sections, with its tables and its place among the declarations.
     /// `None` if the name does not refer to a struct.
     pub fn struct_of(&self, name: &Name) -> Option<(usize, &Structure<'t>)>
-        ensures { option_map (λ s. (s.0, struct_of s.1.now)) result ≡ struct_in (the_decl (decls_of self.now) (ident name.now).text) }
+        ensures { option_map (λ s. (s.0, struct_of s.1.now)) result
+            ≡ struct_in (the_decl (decls_of self.now) (ident name.now).text) }
     {
         let (place, decl) = self.find(name.text.as_str())?;
         match decl {

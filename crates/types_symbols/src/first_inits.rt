@@ -69,8 +69,10 @@ fn pool_at<'a, 't>(decls: &'a Declarations<'t>, i: &Init) -> Option<(usize, &'t 
 /// The struct of the members of the pool that an `init` names, with its tables. `None` if it does not name a pool, or
 /// the pool's struct is unknown.
 pub fn structure_given<'a, 't>(decls: &'a Declarations<'t>, i: &Init) -> Option<&'a Structure<'t>>
-    ensures structure { option_map (λ s. struct_of s.now) result ≡ struct_of_pool (decls_of decls.now) (pool_named decls.now i.now.pool) }
-    ensures members { option_map (λ s. members_seen s.now) result ≡ pool_members (decls_of decls.now) (decl_named decls.now i.now.pool) }
+    ensures structure { option_map (λ s. struct_of s.now) result
+        ≡ struct_of_pool (decls_of decls.now) (pool_named decls.now i.now.pool) }
+    ensures members { option_map (λ s. members_seen s.now) result
+        ≡ pool_members (decls_of decls.now) (decl_named decls.now i.now.pool) }
 {
     let (_, pool) = pool_at(decls, i)?;
     let (_, structure) = decls.struct_of(&pool.target)?;
@@ -129,8 +131,10 @@ fn check_decl(
     d: &Decl,
     firsts: &mut Firsts,
 ) -> Result<(), AllocError>
-    ensures first_inits { OnOk result (IsInitTargetTableWith (gives (decls_of decls.now) (decl_of d.now)) place first_inits.old first_inits.new) }
-    ensures faults { OnOk result (firsts.new ≡ found_in firsts.old (repeated_in first_inits.old (decls_of decls.now) (decl_of d.now))) }
+    ensures first_inits { OnOk result
+        (IsInitTargetTableWith (gives (decls_of decls.now) (decl_of d.now)) place first_inits.old first_inits.new) }
+    ensures faults { OnOk result
+        (firsts.new ≡ found_in firsts.old (repeated_in first_inits.old (decls_of decls.now) (decl_of d.now))) }
 {
     if let Decl::Init(i) = d {
         let init_target = init_target_of(decls, i);
@@ -149,7 +153,8 @@ pub(crate) fn check_first_inits(
     firsts: &mut Firsts,
 ) -> Result<FirstInits, AllocError>
     ensures first_inits { IfOk result (λ t. IsInitTargetTable (decls_of decls.now) (decls_of decls.now) t) }
-    ensures faults { OnOk result (firsts.new ≡ found_in firsts.old (repeated_faults (decls_of decls.now) [] (decls_of decls.now))) }
+    ensures faults { OnOk result
+        (firsts.new ≡ found_in firsts.old (repeated_faults (decls_of decls.now) [] (decls_of decls.now))) }
 {
     let mut first_inits = FirstInits::new(alloc);
     let items = decls.items();

@@ -8,7 +8,7 @@
 //!   [`names::Names`]: the tables.
 //! - [`scope`]: what a name refers to, in a section or outside of sections, and types as they are written.
 //! - [`class_of`], [`report_lock`], [`FieldAnnotations`]: annotations: which lock protects a global, an array or a
-//!   field, and the faults of each.
+//!   field, and the faults of each. [`class_named`], [`report_listed`]: the lock classes that a section takes whole.
 //!
 //! `specs/Working` defines the data that a value of the tables stands for, and the position of a walk along an
 //! annotation. The crate `resolution` defines what names refer to, which lock an annotation names, and where faults
@@ -18,6 +18,7 @@
 mod annotation;
 pub mod declarations;
 pub mod first_inits;
+mod listed;
 pub mod members;
 pub mod names;
 pub mod scope;
@@ -25,3 +26,4 @@ pub mod table;
 pub mod totals;
 
 pub use annotation::{FieldAnnotations, class_of, report_lock};
+pub use listed::{class_named, report_listed};

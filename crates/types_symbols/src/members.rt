@@ -140,9 +140,11 @@ fn check_members(
     firsts: &mut Firsts,
 ) -> Result<(Names, Vec<MemberCounts>, MemberCounts, usize), AllocError>
     ensures names { IfOk result (λ t. IsTableOf member_bears (map member_of members.now) t.0) }
-    ensures counts { IfOk result (λ t. AreAhead (member_counts_from no_members) (map member_of members.now) t.1.items t.2) }
+    ensures counts { IfOk result
+        (λ t. AreAhead (member_counts_from no_members) (map member_of members.now) t.1.items t.2) }
     ensures width { IfOk result (λ t. t.3 ≡ fields_from [] (map member_of members.now)) }
-    ensures faults { OnOk result (firsts.new ≡ found_in firsts.old (member_twice_faults [] (map member_of members.now))) }
+    ensures faults { OnOk result
+        (firsts.new ≡ found_in firsts.old (member_twice_faults [] (map member_of members.now))) }
 {
     let alloc = maker.alloc;
     let mut names = Names::new(maker);
@@ -169,7 +171,8 @@ impl<'t> Structure<'t> {
         firsts: &mut Firsts,
     ) -> Result<Structure<'t>, AllocError>
         ensures item { IfOk result (λ s. s ≡ item.now) }
-        ensures faults { OnOk result (firsts.new ≡ found_in firsts.old (member_twice_faults [] (struct_of item.now).members)) }
+        ensures faults { OnOk result
+            (firsts.new ≡ found_in firsts.old (member_twice_faults [] (struct_of item.now).members)) }
     {
         let (names, ahead, all, width) = check_members(maker, &item.members, firsts)?;
         Ok(Structure {

@@ -341,7 +341,8 @@ fn report_no_struct(start: usize, m: ResolvedName, firsts: &mut Firsts)
 
 /// Notes the fault of a struct's name in a declaration: it is unknown, or not that of a struct.
 pub fn report_target(symbols: &SymbolTable, name: &Name, firsts: &mut Firsts)
-    ensures { firsts.new ≡ found_in firsts.old (type_faults (outside (decls_of symbols.now)) (ref_type (ident name.now))) }
+    ensures { firsts.new ≡ found_in firsts.old
+        (type_faults (outside (decls_of symbols.now)) (ref_type (ident name.now))) }
 {
     report_no_struct(name.start as usize, meaning_outside(symbols, name), firsts);
 }
@@ -363,7 +364,8 @@ pub fn report_local_type(
     t: &tree::ValueType,
     firsts: &mut Firsts,
 )
-    ensures { firsts.new ≡ found_in firsts.old (type_faults (scope_of (decls_of symbols.now) locals.now) (type_seen t.now)) }
+    ensures { firsts.new ≡ found_in firsts.old
+        (type_faults (scope_of (decls_of symbols.now) locals.now) (type_seen t.now)) }
 {
     match t {
         tree::ValueType::Int => {}

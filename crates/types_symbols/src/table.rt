@@ -134,7 +134,8 @@ impl<'t> SymbolTable<'t> {
     /// The struct that `name` refers to outside of sections, with its tables and its place among the declarations.
     /// `None` if the name does not refer to a struct.
     pub fn struct_of(&self, name: &Name) -> Option<(usize, &Structure<'t>)>
-        ensures { option_map (λ s. (s.0, struct_of s.1.now)) result ≡ struct_in (the_decl (decls_of self.now) (ident name.now).text) }
+        ensures { option_map (λ s. (s.0, struct_of s.1.now)) result
+            ≡ struct_in (the_decl (decls_of self.now) (ident name.now).text) }
     {
         self.decls.struct_of(name)
     }

@@ -191,7 +191,8 @@ fn report_members(classes: usize, members: &[Member], firsts: &mut Firsts)
 fn report_lock(classes: usize, m: &Member, start: usize, firsts: &mut Firsts) -> usize
     requires { classes < 2 ^ 63 }
     ensures classes { result ≡ classes + lock_count (is_lock (member_of m.now)) }
-    ensures faults { firsts.new ≡ found_in firsts.old (one_if (is_lock (member_of m.now) && nat_le CLASS_LIMIT classes) LimitExceeded start) }
+    ensures faults { firsts.new ≡ found_in firsts.old
+        (one_if (is_lock (member_of m.now) && nat_le CLASS_LIMIT classes) LimitExceeded start) }
 {
     match m {
         Member::Lock(_) => {
@@ -254,7 +255,8 @@ pub(crate) fn check_totals(
     firsts: &mut Firsts,
 ) -> Result<(Vec<Totals>, Totals), AllocError>
     ensures totals { IfOk result (λ t. AreAhead (totals_of (decls_of decls.now)) (decls_of decls.now) t.0.items t.1) }
-    ensures faults { OnOk result (firsts.new ≡ found_in firsts.old (total_faults (decls_of decls.now) [] (decls_of decls.now))) }
+    ensures faults { OnOk result
+        (firsts.new ≡ found_in firsts.old (total_faults (decls_of decls.now) [] (decls_of decls.now))) }
 {
     let mut ahead = Vec::new(alloc);
     let mut totals = Totals::new();

@@ -66,6 +66,7 @@ module _ (alloc : Global) (name : String Global) where
     );
     array = λ a x e i lt. none_is_some x e;
     pool = λ p x e i lt. none_is_some x e;
+    rise = λ p q x y less ex ey. none_is_some x ex;
     structure = λ p x e. none_is_some x e;
     object = λ o x e. none_is_some x e;
     field = λ o x e s f t is of. none_is_some x e;

@@ -99,6 +99,7 @@ module _ (alloc : Global) (name : String Global) where
     parameters = 0;
     locals = none;
     result_type = None;
+    listed = none;
     result = None;
     body = vec (record { start = 0; action = SetGlobal 0 (joined Add (GlobalExpr 0 0) (Number (pos 1))) } ∷ []) (omega arith);
   }
@@ -196,6 +197,7 @@ module _ (alloc : Global) (name : String Global) where
     parameters = 0;
     locals = none;
     result_type = None;
+    listed = none;
     result = None;
     body = vec (record { start = 0; action = SetGlobal cell (Number (pos n)) } ∷ []) (omega arith);
   }
@@ -244,6 +246,7 @@ module _ (alloc : Global) (name : String Global) where
     parameters = 3;
     locals = vec (parameter (Reference 0) ∷ parameter (Reference 0) ∷ parameter Integer ∷ []) (omega arith);
     result_type = Some Integer;
+    listed = none;
     result = Some (record { start = 0; value = balance 1 });
     body = vec (record { start = 0; action = SetField (a_path 0 [] (omega arith)) 0 0 (joined Sub (balance 0) (at_local 2)) }
         ∷ record { start = 0; action = SetField (a_path 1 [] (omega arith)) 0 0 (joined Add (balance 1) (at_local 2)) } ∷ []) (omega arith);
@@ -332,6 +335,7 @@ module _ (alloc : Global) (name : String Global) where
     parameters = 0;
     locals = none;
     result_type = None;
+    listed = none;
     result = None;
     body = vec (record { start = 0; action = SetGlobal 0 (Number (pos 1)) }
         ∷ record { start = 0; action = While' (Compare Equal (Number (pos 0)) (Number (pos 0))) none end_of-Stmt } ∷ []) (omega arith);
@@ -367,6 +371,7 @@ module _ (alloc : Global) (name : String Global) where
     parameters = 2;
     locals = vec (parameter (Reference 1) ∷ parameter (Reference 1) ∷ []) (omega arith);
     result_type = None;
+    listed = none;
     result = None;
     body = vec (record { start = 0; action = SetField (a_path 0 [] (omega arith)) 1 0 (Number (pos 1)) }
         ∷ record { start = 0; action = SetField (a_path 1 [] (omega arith)) 1 0 (Number (pos 2)) } ∷ []) (omega arith);

@@ -6,9 +6,11 @@ use Rattle.core_lang.specs.declared.value.Value.{Value}
 use Rattle.core_lang.specs.declared.tree.Section.{Section}
 use Rattle.core_lang.specs.Serial.{Invocation}
 use Rattle.core_lang.specs.WellFormed.{CanCall}
-use Rattle.core_lang.specs.Theory.Items.{map_at}
+use Rattle.core_lang.specs.Typing.{HaveTypes, local_types}
+use Rattle.core_lang.specs.Theory.Items.{contains_at}
 use Rattle.locks.specs.declared.lock.Lock.{Lock}
-use Rattle.locks.specs.LockPaths.{LockPath, lock_paths, lock_named}
+use Rattle.locks.specs.LockPaths.{LockPath, lock_paths, locks_named, Names}
+use Rattle.locks.specs.Theory.Members.{in_flat_map}
 use Rattle.locks.specs.Working.Laws.{NamedAreLocks, UsedAreListed}
 use Rattle.inserter.specs.Placement.{IsPath}
 use Rattle.inserter.specs.Working.Laws.{InRuns, HeldAreNamed, FewAreHeld}
@@ -16,7 +18,7 @@ use Rattle.layout.specs.declared.room.Room.{Room}
 use Rattle.layout.specs.LockCells.{cells_of}
 use Rattle.code.specs.Lowering.{lists_at}
 use Rattle.lowering.specs.Plans.{Plan, IsCompiled}
-use Rattle.lowering.specs.Working.Rooms.{most_cells, IsRoomOf}
+use Rattle.lowering.specs.Working.Rooms.{IsRoomOf}
 use Rattle.worlds.specs.Worlds.{Activation, activation, section_at, granted, instructed, next_effect}
 use Rattle.worlds.specs.Working.Ahead.{IsAsking, CanGoOn, running, asking, over, IsReady}
 use Rattle.worlds.specs.Working.InOrder.{IsInOrder, AreCellsOf, FitRoom, SectionsStayInOrder}
@@ -25,7 +27,7 @@ use Rattle.worlds.proofs.Well.{Laws, well_begun, well_instructed, well_granted, 
 use Rattle.worlds.proofs.Steps.{can_call}
 use Rattle.worlds.proofs.Going.{ordered, instructed_on, has_case, has_room, granted_on, asked_on, begun_on}
 use Rattle.worlds.proofs.Ready.{ReadyLaws, has_cells, ready_instructed, rises_in, heap_overwritten}
-use Rattle.worlds.proofs.Sums.{sum_fits, within_most, named_class}
+use Rattle.worlds.proofs.Sums.{locks_fit}
 
 pub record InOrderLaws : Type 0 where
   pub well : Laws
@@ -101,37 +103,32 @@ module _ (laws : InOrderLaws) (plan : Plan) (a : Activation) (ok : IsCompiled pl
   abbrev lists : List (List ℕ)
   lists = lists_at plan.lists a.call.section
 
-  abbrev IsNamedBy : ℕ → Lock → Type 0
-  IsNamedBy i lock =
-      (path : LockPath) × IsPath plan.program r.section i path × (lock_named path plan.program.shape a.machine.locals ≡ Some lock)
+  abbrev locks_by : LockPath → List Lock
+  locks_by path = locks_named path plan.program.shape a.machine.locals
 
-  one : (i : ℕ) (x y : Lock) → IsNamedBy i x → IsNamedBy i y → x ≡ y
-  one i x y m n =
-      let same : m.0 ≡ n.0 = same_Some m.0 n.0 (sym m.1 ∙ n.1) in
-      same_Some x y (sym m.2 ∙ ap (λ (path : LockPath). lock_named path plan.program.shape a.machine.locals) same ∙ n.2)
+  -- a lock that a lock path of the section names is one of the program's
+  module _ (locals : HaveTypes plan.program.shape (local_types r.section.locals.items) a.machine.locals) where
+    path_lock : (path : LockPath) (lock : Lock) → Contains (lock_paths plan.program r.section) path →
+        Names path plan.program.shape a.machine.locals lock → Contains plan.layout.locks lock
+    path_lock path lock at names =
+        let user = (laws.listed plan.program r.section path).0 at in
+        (ok.laid_out.listed lock).1
+        (laws.locks plan.program r.section user.0 path a.machine.locals lock ok.well_formed (a.call.section, r.is) locals user.1 names)
 
   module _ (f : IsAsking plan r.section lists a.held a.pending a.machine) where
     abbrev all : List Lock
     all = a.held ++ a.pending
 
-    named : (lock : Lock) → Contains all lock → (i : ℕ) × IsNamedBy i lock
+    named : (lock : Lock) → Contains all lock →
+        (i : ℕ) × (path : LockPath) × IsPath plan.program r.section i path × Names path plan.program.shape a.machine.locals lock
     named lock c =
-        let x = laws.named plan.program r.section plan.ranks lists f.point.number a.machine.locals all
-        (ordered laws.ready.going plan ok a.call.section r.section r.is) f.come.run lock c in
-        (x.0, (x.1, x.2, x.3))
+        laws.named plan.program r.section plan.ranks lists f.point.number a.machine.locals all
+        (ordered laws.ready.going plan ok a.call.section r.section r.is) f.come.run lock c
 
     listed_one : (lock : Lock) → Contains all lock → Contains plan.layout.locks lock
     listed_one lock c =
         let x = named lock c in
-        let path = x.1.0 in
-        let at : Contains (lock_paths plan.program r.section) path = (
-          x.0,
-          slice_get_within (lock_paths plan.program r.section) x.0 path x.1.1,
-          get_or_from_slice_get (lock_paths plan.program r.section) x.0 path path x.1.1,
-        ) in
-        let user = (laws.listed plan.program r.section path).0 at in
-        (ok.laid_out.listed lock).1
-        (laws.locks plan.program r.section user.0 path a.machine.locals lock ok.well_formed (a.call.section, r.is) f.come.locals user.1 x.1.2)
+        path_lock f.come.locals x.1 lock (contains_at (lock_paths plan.program r.section) x.0 x.1 x.2) x.3
 
     fit_all : (section : Section) (room : Room) → section_at plan a.call.section ≡ Some section →
         IsRoomOf plan.program plan.layout section room →
@@ -141,18 +138,9 @@ module _ (laws : InOrderLaws) (plan : Plan) (a : Activation) (ok : IsCompiled pl
         let mine : IsRoomOf plan.program plan.layout r.section room = subst (λ s. IsRoomOf plan.program plan.layout s room) same room_is in
         let few = laws.few plan.program r.section plan.ranks lists f.point.number a.machine.locals all
         (ordered laws.ready.going plan ok a.call.section r.section r.is) f.come.run in
-        let most : LockPath → ℕ = λ path. most_cells plan.layout path.class in
-        let cells : Lock → ℕ = λ lock. length (cells_of plan.layout.cell_locks lock) in
-        let sum = sum_fits cells IsNamedBy one all most (lock_paths plan.program r.section) few.0 (λ lock c.
-        (let x = named lock c in
-        record {
-          number = x.0;
-          has = x.1;
-          most = most x.1.0;
-          at = map_at most (lock_paths plan.program r.section) x.0 x.1.0 x.1.1;
-          less = within_most plan.layout.cell_locks plan.layout.locks lock x.1.0.class (listed_one lock c)
-              (named_class x.1.0 plan.program.shape a.machine.locals lock x.1.2);
-        })) in
+        let sum = locks_fit plan.layout plan.program.shape a.machine.locals all (lock_paths plan.program r.section) few.0
+        (λ lock c. let x = named lock c in in_flat_map locks_by (lock_paths plan.program r.section) x.0 x.1 lock x.2 x.3)
+        (path_lock f.come.locals) in
         let count = mine.locks in
         let cells_count = mine.cells in
         record {

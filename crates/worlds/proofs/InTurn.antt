@@ -6,28 +6,25 @@ use Rattle.std.proofs.lemmas.Bool.{or_parts}
 use Rattle.std.proofs.lemmas.Option.{get_or_from_slice_get, slice_get_within, slice_get-get_or}
 use Rattle.std.proofs.lemmas.List.Elements.{Contains-append_left, Contains-push, Contains-append_cases}
 use Rattle.std.specs.Prelude.{slice_index}
-use Rattle.std.specs.Option.{option_map}
+use Rattle.std.specs.Option.{option_map_or}
 use Rattle.std.specs.List.{Contains}
 use Rattle.core_lang.specs.declared.value.Value.{Value}
-use Rattle.core_lang.specs.declared.shape.Shape.{Shape}
 use Rattle.core_lang.specs.declared.tree.Section.{Section}
 use Rattle.core_lang.specs.declared.typed.LockClass.{LockClass}
 use Rattle.core_lang.specs.declared.typed.Typed.{Typed}
-use Rattle.core_lang.specs.Typing.{lookup}
 use Rattle.locks.specs.declared.lock.Lock.{Lock}
-use Rattle.locks.specs.declared.path.Root.{Root}
-use Rattle.locks.specs.declared.path.Root.TheVariants.{GlobalLock, Local as AtLocal}
-use Rattle.locks.specs.LockPaths.{LockPath, lock_paths, lock_from, lock_named, object_at}
+use Rattle.locks.specs.LockPaths.{LockPath, lock_paths, locks_named, Names}
+use Rattle.locks.specs.Theory.Naming.{named_class}
 use Rattle.locks.specs.Working.Laws.{PathsHaveClasses, UsedAreListed}
 use Rattle.locks.specs.Order.{Precedes, PrecedesIsStrict, precedes}
 use Rattle.locks.specs.Locks.{same_lock, among}
 use Rattle.lockorder.specs.Edges.{AreRanksOf}
 use Rattle.inserter.specs.Working.Runs.{IsListed, Asks, Run, gets}
 use Rattle.inserter.specs.Working.Laws.{IsOrdered, InRuns, AsksRise}
-use Rattle.worlds.specs.Asking.{insert, insert_new, lock_numbered, to_ask}
+use Rattle.worlds.specs.Asking.{insert, insert_new, insert_all, locks_numbered, to_ask}
 use Rattle.worlds.specs.Working.InTurn.{RiseBehind, AskedInTurn}
 use Rattle.locks.specs.Theory.Order.{by_rank, by_object, same_is, same_refl, contains_among, among_contains}
-use Rattle.core_lang.specs.Theory.Items.{in_cases, in_first, in_rest}
+use Rattle.core_lang.specs.Theory.Items.{not_in_none, in_cases, in_first, in_rest}
 
 pub record OrderLaws : Type 0 where
   pub classes : PathsHaveClasses
@@ -58,7 +55,7 @@ same_rank program ranks ok a b ka kb e =
     let classes : Some a.class ≡ Some b.class = sym p.1 ∙ (ap (slice_get ok.list) same ∙ q.1) in
     cc classes
 
--- of two locks that are not the same, one precedes the other
+-- of two locks that aren't the same one comes before the other
 total : (program : Typed) (ranks : List ℕ) → AreRanksOf program ranks → (a b : Lock) → Known program a →
     Known program b → same_lock a b ≡ false →
     precedes ranks a b ≡ false → Precedes ranks b a
@@ -148,37 +145,29 @@ rising_insert strict program ranks ok l (x ∷ xs) kl known rise =
         rest,
       )
 
--- ---- the requested locks
+-- ---- what is asked for
 
 record IsNumbered (program : Typed) (section : Section) (locals : List Value) (held : List Lock) (list : List ℕ) (l : Lock) : Type 0 where
   number : ℕ
   listed : Contains list number
-  named : lock_numbered program section locals number ≡ Some l
+  named : Contains (locks_numbered program section locals number) l
   new : among held l ≡ false
-
-abbrev made : ℕ → ℕ → Lock
-made class o = record { class = class; object = o }
-
-mapped : (class : ℕ) (x : Option ℕ) (l : Lock) → option_map (made class) x ≡ Some l → l.class ≡ class
-mapped class None l h = absurd cc
-mapped class (Some o) l h = (let same : made class o ≡ l = cc h in ap (λ (x : Lock). x.class) (sym same))
-
-path_class : (root : Root) (finals : List ℕ) (class : ℕ) (shape : Shape) (locals : List Value) (l : Lock) →
-    lock_from root finals class shape locals ≡ Some l → l.class ≡ class
-path_class GlobalLock finals class shape locals l h = (let same : made class 0 ≡ l = cc h in ap (λ (x : Lock). x.class) (sym same))
-path_class (AtLocal k) finals class shape locals l h = mapped class (object_at shape locals k finals) l h
 
 -- the path of a number
 record IsNamed (program : Typed) (section : Section) (locals : List Value) (i : ℕ) (l : Lock) : Type 0 where
   path : LockPath
   is_path : slice_get (lock_paths program section) i ≡ Some path
-  named : lock_named path program.shape locals ≡ Some l
+  named : Names path program.shape locals l
 
 named_by : (program : Typed) (section : Section) (locals : List Value) (i : ℕ) (l : Lock) (x : Option LockPath) →
-    slice_get (lock_paths program section) i ≡ x → lookup x (λ (path : LockPath). lock_named path program.shape locals) ≡ Some l →
-    IsNamed program section locals i l
-named_by program section locals i l None e h = absurd cc
+    slice_get (lock_paths program section) i ≡ x →
+    Contains (option_map_or (λ (path : LockPath). locks_named path program.shape locals) x []) l → IsNamed program section locals i l
+named_by program section locals i l None e h = absurd (not_in_none l h)
 named_by program section locals i l (Some path) e h = record { path = path; is_path = e; named = h }
+
+named_at : (program : Typed) (section : Section) (locals : List Value) (i : ℕ) (l : Lock) →
+    Contains (locks_numbered program section locals i) l → IsNamed program section locals i l
+named_at program section locals i l h = named_by program section locals i l (slice_get (lock_paths program section) i) refl h
 
 known_named : OrderLaws → (program : Typed) (section : Section) (ranks : List ℕ) (lists : List (List ℕ)) →
     IsOrdered program section ranks lists →
@@ -188,76 +177,100 @@ known_named laws program section ranks lists ok locals i l n =
     (i, slice_get_within (lock_paths program section) i n.path n.is_path, get_or_from_slice_get (lock_paths program section) i n.path n.path n.is_path) in
     let used = (laws.listed program section n.path).0 inside in
     let class = laws.classes program section used.0 n.path ok.well_formed used.1 in
-    (class.0, ap (slice_get program.classes.items) (path_class n.path.root n.path.finals n.path.class program.shape locals l n.named) ∙ class.1)
+    (class.0, ap (slice_get program.classes.items) (named_class n.path program.shape locals l n.named) ∙ class.1)
 
--- the locks after the lock of one more path is inserted
-new_only : (ranks : List ℕ) (held : List Lock) (x : Option Lock) (xs : List Lock) (y : Lock) →
-    among (insert_new ranks held x xs) y ≡ true →
-    ((x ≡ Some y) × (among held y ≡ false)) ⊎ (among xs y ≡ true)
-new_only ranks held None xs y h = inr h
-new_only ranks held (Some l) xs y h = by (among held l) refl h where
+-- one lock more
+new_only : (ranks : List ℕ) (held : List Lock) (l : Lock) (xs : List Lock) (y : Lock) →
+    among (insert_new ranks held l xs) y ≡ true →
+    ((l ≡ y) × (among held y ≡ false)) ⊎ (among xs y ≡ true)
+new_only ranks held l xs y h = by (among held l) refl h where
   by : (b : Bool) → among held l ≡ b → among (if b then xs else insert ranks l xs) y ≡ true →
-      ((Some l ≡ Some y) × (among held y ≡ false)) ⊎ (among xs y ≡ true)
+      ((l ≡ y) × (among held y ≡ false)) ⊎ (among xs y ≡ true)
   by true e h = inr h
   by false e h = elim (insert_among ranks l xs y h) [
-    | inl same ↦ inl (ap (λ (z : Lock). Some z) same, subst (λ z. among held z ≡ false) same e)
+    | inl same ↦ inl (same, subst (λ z. among held z ≡ false) same e)
     | inr q ↦ inr q
   ]
 
-new_has : (ranks : List ℕ) (held : List Lock) (x : Option Lock) (xs : List Lock) (y : Lock) → among held y ≡ false →
-    (x ≡ Some y) ⊎ (among xs y ≡ true) → among (insert_new ranks held x xs) y ≡ true
-new_has ranks held None xs y new (inl e) = absurd cc
-new_has ranks held None xs y new (inr h) = h
-new_has ranks held (Some l) xs y new h = by (among held l) refl h where
-  by : (b : Bool) → among held l ≡ b → (Some l ≡ Some y) ⊎ (among xs y ≡ true) →
+new_has : (ranks : List ℕ) (held : List Lock) (l : Lock) (xs : List Lock) (y : Lock) → among held y ≡ false →
+    (l ≡ y) ⊎ (among xs y ≡ true) → among (insert_new ranks held l xs) y ≡ true
+new_has ranks held l xs y new h = by (among held l) refl h where
+  by : (b : Bool) → among held l ≡ b → (l ≡ y) ⊎ (among xs y ≡ true) →
       among (if b then xs else insert ranks l xs) y ≡ true
-  by true e (inl same) = (let as_one : l ≡ y = cc same in absurd (true≢false (sym e ∙ (ap (among held) as_one ∙ new))))
+  by true e (inl same) = absurd (true≢false (sym e ∙ (ap (among held) same ∙ new)))
   by true e (inr q) = q
-  by false e (inl same) = (let as_one : l ≡ y = cc same in among_insert ranks l xs y (inl as_one))
+  by false e (inl same) = among_insert ranks l xs y (inl same)
   by false e (inr q) = among_insert ranks l xs y (inr q)
+
+-- several locks more
+all_only : (ranks : List ℕ) (held new xs : List Lock) (y : Lock) → among (insert_all ranks held new xs) y ≡ true →
+    (Contains new y × (among held y ≡ false)) ⊎ (among xs y ≡ true)
+all_only ranks held [] xs y h = inr h
+all_only ranks held (l ∷ ls) xs y h =
+    elim (new_only ranks held l (insert_all ranks held ls xs) y h) [
+      | inl e ↦ inl (subst (Contains (l ∷ ls)) e.0 (in_first l ls), e.1)
+      | inr q ↦ elim (all_only ranks held ls xs y q) [ inl r ↦ inl (in_rest l y ls r.0, r.1) | inr r ↦ inr r ]
+    ]
+
+all_has : (ranks : List ℕ) (held new xs : List Lock) (y : Lock) → among held y ≡ false →
+    Contains new y ⊎ (among xs y ≡ true) → among (insert_all ranks held new xs) y ≡ true
+all_has ranks held [] xs y free (inl c) = absurd (not_in_none y c)
+all_has ranks held [] xs y free (inr h) = h
+all_has ranks held (l ∷ ls) xs y free (inl c) =
+    new_has ranks held l (insert_all ranks held ls xs) y free
+    (elim (in_cases l y ls c) [ inl e ↦ inl e | inr d ↦ inr (all_has ranks held ls xs y free (inl d)) ])
+all_has ranks held (l ∷ ls) xs y free (inr h) =
+    new_has ranks held l (insert_all ranks held ls xs) y free (inr (all_has ranks held ls xs y free (inr h)))
 
 asked_only : (program : Typed) (section : Section) (ranks : List ℕ) (held : List Lock) (locals : List Value) (list : List ℕ) (y : Lock) →
     among (to_ask program section ranks held locals list) y ≡ true → IsNumbered program section locals held list y
 asked_only program section ranks held locals [] y h = absurd (true≢false (sym h))
 asked_only program section ranks held locals (i ∷ is) y h =
-    elim (new_only ranks held (lock_numbered program section locals i) (to_ask program section ranks held locals is) y h) [
+    elim (all_only ranks held (locks_numbered program section locals i) (to_ask program section ranks held locals is) y h) [
       | inl e ↦ record { number = i; listed = in_first i is; named = e.0; new = e.1 }
       | inr q ↦ (let r = asked_only program section ranks held locals is y q in
           record { number = r.number; listed = in_rest i r.number is r.listed; named = r.named; new = r.new })
     ]
 
 asked_has : (program : Typed) (section : Section) (ranks : List ℕ) (held : List Lock) (locals : List Value) (list : List ℕ) (y : Lock) (i : ℕ) →
-    Contains list i → lock_numbered program section locals i ≡ Some y → among held y ≡ false →
+    Contains list i → Contains (locks_numbered program section locals i) y → among held y ≡ false →
     among (to_ask program section ranks held locals list) y ≡ true
 asked_has program section ranks held locals [] y i c named new = absurd (let less = c.1 in omega (arith, less))
 asked_has program section ranks held locals (k ∷ is) y i c named new =
-    new_has ranks held (lock_numbered program section locals k) (to_ask program section ranks held locals is) y new
+    all_has ranks held (locks_numbered program section locals k) (to_ask program section ranks held locals is) y new
     (elim (in_cases k i is c) [
-      | inl e ↦ inl (ap (lock_numbered program section locals) e ∙ named)
+      | inl e ↦ inl (subst (λ n. Contains (locks_numbered program section locals n) y) (sym e) named)
       | inr d ↦ inr (asked_has program section ranks held locals is y i d named new)
     ])
 
 new_rises : PrecedesIsStrict → (program : Typed) (ranks : List ℕ) → AreRanksOf program ranks →
-    (held : List Lock) (x : Option Lock) (xs : List Lock) →
-    ((l : Lock) → x ≡ Some l → Known program l) → ((y : Lock) → among xs y ≡ true → Known program y) → Rising ranks xs →
-    Rising ranks (insert_new ranks held x xs)
-new_rises strict program ranks ok held None xs first known rise = rise
-new_rises strict program ranks ok held (Some l) xs first known rise =
-    by (among held l) (rising_insert strict program ranks ok l xs (first l refl) known rise) where
+    (held : List Lock) (l : Lock) (xs : List Lock) → Known program l →
+    ((y : Lock) → among xs y ≡ true → Known program y) → Rising ranks xs →
+    Rising ranks (insert_new ranks held l xs)
+new_rises strict program ranks ok held l xs first known rise =
+    by (among held l) (rising_insert strict program ranks ok l xs first known rise) where
       by : (b : Bool) → Rising ranks (insert ranks l xs) → Rising ranks (if b then xs else insert ranks l xs)
       by true r = rise
       by false r = r
+
+all_rise : PrecedesIsStrict → (program : Typed) (ranks : List ℕ) → AreRanksOf program ranks →
+    (held new xs : List Lock) → ((l : Lock) → Contains new l → Known program l) →
+    ((y : Lock) → among xs y ≡ true → Known program y) → Rising ranks xs → Rising ranks (insert_all ranks held new xs)
+all_rise strict program ranks ok held [] xs first known rise = rise
+all_rise strict program ranks ok held (l ∷ ls) xs first known rise =
+    new_rises strict program ranks ok held l (insert_all ranks held ls xs) (first l (in_first l ls))
+    (λ y h. elim (all_only ranks held ls xs y h) [ inl e ↦ first y (in_rest l y ls e.0) | inr q ↦ known y q ])
+    (all_rise strict program ranks ok held ls xs (λ y c. first y (in_rest l y ls c)) known rise)
 
 asked_rises : OrderLaws → (program : Typed) (section : Section) (ranks : List ℕ) (lists : List (List ℕ)) →
     IsOrdered program section ranks lists →
     (held : List Lock) (locals : List Value) (list : List ℕ) → Rising ranks (to_ask program section ranks held locals list)
 asked_rises laws program section ranks lists ok held locals [] = tt
 asked_rises laws program section ranks lists ok held locals (i ∷ is) =
-    let known : (k : ℕ) (l : Lock) → lock_numbered program section locals k ≡ Some l → Known program l =
-    λ k l named. known_named laws program section ranks lists ok locals k l
-    (named_by program section locals k l (slice_get (lock_paths program section) k) refl named) in
-    new_rises laws.strict program ranks ok.ranked held (lock_numbered program section locals i) (to_ask program section ranks held locals is)
-    (λ l named. known i l named)
+    let known : (k : ℕ) (l : Lock) → Contains (locks_numbered program section locals k) l → Known program l =
+    λ k l named. known_named laws program section ranks lists ok locals k l (named_at program section locals k l named) in
+    all_rise laws.strict program ranks ok.ranked held (locks_numbered program section locals i) (to_ask program section ranks held locals is)
+    (known i)
     (λ y h. (let n = asked_only program section ranks held locals is y h in known n.number y n.named))
     (asked_rises laws program section ranks lists ok held locals is)
 
@@ -276,7 +289,7 @@ with_none (x ∷ xs) = ap (λ rest. x ∷ rest) (with_none xs)
 
 module _ (laws : OrderLaws) (program : Typed) (section : Section) (ranks : List ℕ) (lists : List (List ℕ)) (p : ℕ) (locals : List Value)
     (ok : IsOrdered program section ranks lists) where
-  -- exactly the listed locks that are not held, in order
+  -- exactly the listed locks that aren't held, in order
   record Filling (held xs : List Lock) : Type 0 where
     order : Rising ranks xs
     only : (l : Lock) → among xs l ≡ true → IsListed program section ranks lists p locals l × (Contains held l → ⊥)
@@ -343,7 +356,7 @@ asked_in_turn laws program section ranks lists p locals held list ok run here =
     fill laws program section ranks lists p locals ok held (to_ask program section ranks held locals list) run (record {
       order = asked_rises laws program section ranks lists ok held locals list;
       only = λ l h. (let n = asked_only program section ranks held locals list l h in
-          let named = named_by program section locals n.number l (slice_get (lock_paths program section) n.number) refl n.named in (
+          let named = named_at program section locals n.number l n.named in (
             record { list = list; number = n.number; path = named.path; here = here; listed = n.listed; is_path = named.is_path; named = named.named },
             λ c. true≢false (sym (contains_among held l c) ∙ n.new),
           ));
@@ -351,5 +364,6 @@ asked_in_turn laws program section ranks lists p locals held list ok run here =
           (let lists_same : Some listed.list ≡ Some list = sym listed.here ∙ here in
           let same : listed.list ≡ list = cc lists_same in
           asked_has program section ranks held locals list l listed.number (subst (λ xs. Contains xs listed.number) same listed.listed)
-          (ap (λ x. lookup x (λ (path : LockPath). lock_named path program.shape locals)) listed.is_path ∙ listed.named) (not_among held l new));
+          (subst (λ x. Contains (option_map_or (λ (path : LockPath). locks_named path program.shape locals) x []) l) (sym listed.is_path) listed.named)
+          (not_among held l new));
     })

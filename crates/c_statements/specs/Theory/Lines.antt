@@ -15,6 +15,12 @@ module _ (a b g : List ℕ) where
 
 -- the line with which a path acquires its lock alone, after its test
 pub alone_line : (k root take : List ℕ) →
-    codes "  if (AL_RARE(h[" ++ k ++ codes "] == NULL" ++ root ++ codes ")) { " ++ take ++ codes " }\n"
-    ≡ codes "  " ++ (codes "if (AL_RARE(" ++ (codes "h[" ++ k ++ codes "]") ++ codes " == NULL" ++ root ++ codes ")) { " ++ take ++ codes " }") ++ codes "\n"
+    codes "  if (AL_RARE(h[" ++ k ++ codes "] == NULL" ++ root ++ codes ")) {" ++ take ++ codes " }\n"
+    ≡ codes "  " ++ (codes "if (AL_RARE(" ++ (codes "h[" ++ k ++ codes "]") ++ codes " == NULL" ++ root ++ codes ")) {" ++ take ++ codes " }") ++ codes "\n"
 alone_line k root take = simp append_assoc
+
+-- the loop over a pool's members, in its pieces
+pub pool_line : (a n b h d q r name i last s called o z : List ℕ) →
+    ((a ++ (n ++ b)) ++ (h ++ (d ++ ((q ++ r) ++ (name ++ i)))) ++ last) ++ (s ++ (called ++ ((o ++ h) ++ (d ++ (q ++ z)))))
+    ≡ a ++ n ++ b ++ (h ++ d ++ q) ++ r ++ name ++ i ++ last ++ s ++ called ++ o ++ (h ++ d ++ q) ++ z
+pool_line a n b h d q r name i last s called o z = simp append_assoc

@@ -26,6 +26,9 @@ tested_of x root = text.root_test x.scope.program.now x.scope.section.now (paths
 abbrev pub lock_one_of : Acquires → ℕ → written.LockPath → List ℕ
 lock_one_of x k path = text.lock_one_text x.scope.program.now x.scope.section.now (paths_in x) k (lock_path_of path)
 
+abbrev pub locks_of : Acquires → ℕ → written.LockPath → List ℕ
+locks_of x k path = text.locks_text x.scope.program.now x.scope.section.now (paths_in x) path.root k (lock_path_of path)
+
 abbrev pub alone_of : Acquires → ℕ → written.LockPath → List ℕ
 alone_of x k path = text.alone_of x.scope.program.now x.scope.section.now (paths_in x) k (lock_path_of path)
 

@@ -32,7 +32,7 @@ module _ (plan : Plan) (k : ℕ) (section : Section) where
     pub listed : Contains (listed_before plan k at) i
     pub order : (at ≡ p) ⊎ Before (skeleton section) at p
 
-  -- if a run is at a point, each noted lock is the one that its path names, and the path was listed on the way
+  -- if a run is at a point, each noted lock is one that its path names, and the path was listed on the way
   pub record NotesStand (p : ℕ) (locals : List Value) (notes : List (Option Lock)) : Type 0 where
     pub fit : NotesFit plan.program section locals notes
     pub listed : (i : ℕ) (lock : Lock) → slice_get notes i ≡ Some (Some lock) → WasListed p i
@@ -53,11 +53,11 @@ module _ (plan : Plan) (k : ℕ) (section : Section) where
     over : {outcome : Outcome} → a.pending ≡ [] → a.outcome ≡ Some outcome → NotesGoOn a notes
 
 -- the notes of an open section are of the locks that it holds and of those that it is to be granted. At each point that
--- it comes to, each note is of the lock that its path names
+-- it comes to, each note is of a lock that its path names
 pub record IsNoted (plan : Plan) (a : Activation) (notes : List (Option Lock)) : Type 0 where
   pub section : Section
   pub is : section_at plan a.call.section ≡ Some section
-  pub are : NotesAre notes (a.held ++ a.pending)
+  pub are : NotesAre plan.program section notes (a.held ++ a.pending)
   pub goes_on : NotesGoOn plan a.call.section section a notes
 
 -- before a point, the acquire in C calls AL_LOCK with the locks that the section is to be granted then. Each of them

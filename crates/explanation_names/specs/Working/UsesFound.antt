@@ -6,12 +6,12 @@ use Rattle.syntax.specs.Trees.{member_const, Expr, int, null, place, paren, pref
 use Rattle.syntax.specs.Trees.{element, path, Links, no_links, link, HelperCall, Local, Stmt, let_local, let_owned}
 use Rattle.syntax.specs.Trees.{let_call, var_local, assign, if_then, while, print, return_value, Stmts, no_stmts}
 use Rattle.syntax.specs.Trees.{stmt, Otherwise, no_else, else_do, Protection, Member, lock_member, final_member}
-use Rattle.syntax.specs.Trees.{field_member, Param, Section, Call, Item, call, repeat, Items, no_items, item, Decl}
-use Rattle.syntax.specs.Trees.{lock, struct, global, array, pool, init, atomic, helper, thread}
+use Rattle.syntax.specs.Trees.{field_member, Param, ClassName, Section, Call, Item, call, repeat, Items, no_items}
+use Rattle.syntax.specs.Trees.{item, Decl, lock, struct, global, array, pool, init, atomic, helper, thread}
 use Rattle.syntax.specs.Trees as tree
 use Rattle.explanation_names.specs.declared.sought.NameKind.TheVariants as kind
 use Rattle.explanation_names.specs.Locals.{LocalInScope, declared_by, param_in_scope}
-use Rattle.explanation_names.specs.Sought.{Use, of_kind, by_dots, by_init, by_annotation, by_owner}
+use Rattle.explanation_names.specs.Sought.{Use, of_kind, by_dots, by_init, by_annotation, by_owner, by_class}
 
 module _ (xs : List LocalInScope) where
   abbrev mutual
@@ -131,8 +131,12 @@ module _ (xs : List LocalInScope) where
   abbrev pub uses_of_param : Param → List Use
   uses_of_param p = uses_of_type xs p.value_type
 
+  abbrev pub uses_of_class : ClassName → List Use
+  uses_of_class c = of_kind kind.Struct xs c.structure ∷ by_class c.structure c.lock ∷ []
+
   abbrev pub uses_of_section : Section → List Use
-  uses_of_section s = (uses_of_body s ++ flat_map uses_of_param s.params) ++ uses_of_result s.result
+  uses_of_section s =
+      ((uses_of_body s ++ flat_map uses_of_param s.params) ++ uses_of_result s.result) ++ flat_map uses_of_class s.listed
 
   abbrev pub uses_of_decl : Decl → List Use
   uses_of_decl (lock x) = []

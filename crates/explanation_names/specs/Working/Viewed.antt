@@ -8,8 +8,9 @@ use Rattle.source.specs.declared.token.Token.{Token}
 use Rattle.types_symbols.specs.Working.Views.{decls_of as decls_in, members_seen}
 use Rattle.types_symbols.specs.declared.members.Structure.{Structure}
 use Rattle.types_symbols.specs.declared.table.SymbolTable.{SymbolTable}
-use Rattle.syntax.specs.Trees.{Ident, Member, Param, Section, Stmt, let_local, let_owned, let_call, var_local}
-use Rattle.syntax.specs.Views.{decl_of, member_of, param_of, protection_of, section_of, stmt_of}
+use Rattle.syntax.specs.Trees.{ClassName, Ident, Member, Param, Section, Stmt, let_local, let_owned, let_call, var_local}
+use Rattle.syntax.specs.Views.{class_name_of, decl_of, member_of, param_of, protection_of, section_of, stmt_of}
+use Rattle.syntax.specs.declared.tree.ClassName as written_class
 use Rattle.syntax.specs.declared.tree.Decl as written_decl
 use Rattle.syntax.specs.declared.tree.Member as written_member
 use Rattle.syntax.specs.declared.tree.Name.{Name}
@@ -26,6 +27,10 @@ use Rattle.explanation_names.specs.Working.Values.{ident_at}
 abbrev pub FoundName : (Ident → Type 0) → Option (Bor Name) → Type 0
 FoundName Is (Some name) = Is (ident_at name)
 FoundName Is None = (x : Ident) → Is x → ⊥
+
+abbrev pub FoundClass : (ClassName → Type 0) → Option (Bor written_class.ClassName) → Type 0
+FoundClass Is (Some class) = Is (class_name_of class.now)
+FoundClass Is None = (c : ClassName) → Is c → ⊥
 
 abbrev pub name_of_member : written_member.Member → Ident
 name_of_member m = member_name (member_of m)

@@ -31,5 +31,9 @@ loop_of w = a_loop w.start (expr_of w.condition) (stmts_of w.block.stmts.items)
 abbrev pub warnings_seen : List written_warning.Warning → List Warning
 warnings_seen ws = map warning_of ws
 
+-- the warnings after are those before, and these
+abbrev pub Adds : List Warning → Vec written_warning.Warning Global → Vec written_warning.Warning Global → Type 0
+Adds warnings before after = warnings_seen after.items ≡ warnings_seen before.items ++ warnings
+
 abbrev pub AddsWarnings : Program → List Subject → Vec written_warning.Warning Global → Vec written_warning.Warning Global → Type 0
 AddsWarnings program subjects before after = warnings_seen after.items ≡ warnings_seen before.items ++ warned (decls_in program) subjects

@@ -5,7 +5,7 @@ use Rattle.core_lang.specs.declared.typed.Typed.{Typed}
 use Rattle.explanation.specs.declared.note.Note as written
 use Rattle.explanation.specs.Notes.{Note, note_of}
 use Rattle.locks.specs.declared.path.Root.{Root}
-use Rattle.locks.specs.declared.path.Root.TheVariants.{GlobalLock, Local as AtLocal}
+use Rattle.locks.specs.declared.path.Root.TheVariants.{GlobalLock, WholeClass, Local as AtLocal}
 use Rattle.locks.specs.LockPaths.{LockPath, Uses, BindsRoot, lock_paths}
 use Rattle.lockorder.specs.declared.ranks.ClassPair.{ClassPair}
 use Rattle.lockorder.specs.declared.ranks.Edge.{Edge}
@@ -19,6 +19,7 @@ abbrev pub begins : Root → Option ℕ → Bool
 begins (AtLocal k) (Some local) = k == local
 begins (AtLocal k) None = false
 begins GlobalLock local = false
+begins (WholeClass s) local = false
 
 -- the section has a path of this number, which is of the class
 pub record HasClass (program : Typed) (section : Section) (class i : ℕ) : Type 0 where

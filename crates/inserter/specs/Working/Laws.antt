@@ -1,5 +1,5 @@
 -- Laws of a run's locks, as the laws of `src/laws.rt` claim them.
-use Rattle.std.specs.Prelude.{◌≡◌, ◌≢◌, ◌≤◌, ℕ, List, length, slice_get, Some}
+use Rattle.std.specs.Prelude.{◌≡◌, ◌≢◌, ◌≤◌, ◌⊎◌, ℕ, List, length, slice_get, Some}
 use Rattle.std.specs.List.{AllPairs, Contains}
 use Rattle.core_lang.specs.declared.value.Value.{Value}
 use Rattle.core_lang.specs.declared.tree.Section.{Section}
@@ -7,11 +7,13 @@ use Rattle.core_lang.specs.declared.typed.Typed.{Typed}
 use Rattle.core_lang.specs.WellFormed.{IsWellFormed}
 use Rattle.locks.specs.declared.lock.Lock.{Lock}
 use Rattle.locks.specs.Faults.{HasSection}
-use Rattle.locks.specs.LockPaths.{LockPath, lock_paths, lock_named, Uses}
+use Rattle.locks.specs.Locks.{locks_of}
+use Rattle.locks.specs.LockPaths.{LockPath, whole_class, lock_paths, Names, most_locks, Uses}
 use Rattle.locks.specs.Order.{Precedes}
 use Rattle.lockorder.specs.Edges.{AreRanksOf, RiseIn}
 use Rattle.inserter.specs.Placement.{IsPath, IsPlacement}
-use Rattle.inserter.specs.Working.Runs.{AreAllowed, IsListed, Asks, Run}
+use Rattle.points.specs.Wanted.{IsWanted}
+use Rattle.inserter.specs.Working.Runs.{AreAllowed, IsListed, Asks, Run, executed}
 
 -- a section of a well-formed program, ranks in which each edge rises, and allowed lists
 pub record IsOrdered (program : Typed) (section : Section) (ranks : List ℕ) (lists : List (List ℕ)) : Type 0 where
@@ -50,14 +52,26 @@ AsksForSome program section ranks lists p locals held =
 abbrev pub UsedAreHeld : Typed → Section → List ℕ → List (List ℕ) → ℕ → List Value → List Lock → Type 0
 UsedAreHeld program section ranks lists p locals held =
     ((lock : Lock) → IsListed program section ranks lists p locals lock → Contains held lock) →
-    (path : LockPath) (lock : Lock) → Uses program section p path → lock_named path program.shape locals ≡ Some lock → Contains held lock
+    (path : LockPath) (lock : Lock) → Uses program section p path → Names path program.shape locals lock → Contains held lock
 
 -- each lock that is held is one that a lock path of the section names
 abbrev pub HeldAreNamed : Typed → Section → List ℕ → List (List ℕ) → ℕ → List Value → List Lock → Type 0
 HeldAreNamed program section ranks lists p locals held =
     (lock : Lock) → Contains held lock →
-    (i : ℕ) × (path : LockPath) × IsPath program section i path × (lock_named path program.shape locals ≡ Some lock)
+    (i : ℕ) × (path : LockPath) × IsPath program section i path × Names path program.shape locals lock
 
--- no lock is held twice, and at most as many are held as the section has lock paths
+-- no lock is held twice, and at most as many are held as the lock paths of the section can name
 abbrev pub FewAreHeld : Typed → Section → List ℕ → List (List ℕ) → ℕ → List Value → List Lock → Type 0
-FewAreHeld program section ranks lists p locals held = AllPairs ◌≢◌ held × (length held ≤ length (lock_paths program section))
+FewAreHeld program section ranks lists p locals held =
+    AllPairs ◌≢◌ held × (length held ≤ most_locks program.shape (lock_paths program section))
+
+-- from the first point that wants a class which is taken whole to its end, a run holds every lock of the class: when it
+-- holds all that is listed before such a point, and at all times after it has executed one
+abbrev pub WholeClassesAreHeld : Type 0
+WholeClassesAreHeld =
+    (program : Typed) (section : Section) (ranks : List ℕ) (lists : List (List ℕ)) (p : ℕ) (locals : List Value) (held : List Lock) →
+    IsOrdered program section ranks lists → (run : Run program section ranks lists p locals held) →
+    (point number structure : ℕ) → IsWanted program section ranks point (whole_class number structure) →
+    ((point ≡ p) × ((lock : Lock) → IsListed program section ranks lists p locals lock → Contains held lock))
+    ⊎ Contains (executed program section ranks lists run) point →
+    (lock : Lock) → Contains (locks_of program.shape number structure) lock → Contains held lock

@@ -8,7 +8,7 @@ use Rattle.flow.specs.Skeletons.{skeleton}
 use Rattle.flow.specs.Flow.{Follows}
 use Rattle.flow.specs.Points.{points}
 use Rattle.locks.specs.declared.lock.Lock.{Lock}
-use Rattle.locks.specs.LockPaths.{LockPath, lock_named, Uses, BindsRoot}
+use Rattle.locks.specs.LockPaths.{LockPath, locks_named, Names, Uses, BindsRoot}
 use Rattle.locks.specs.Order.{Precedes}
 use Rattle.points.specs.Wanted.{IsWanted}
 use Rattle.inserter.specs.Placement.{IsPath, IsDue}
@@ -33,7 +33,7 @@ module _ (program : Typed) (section : Section) (ranks : List ℕ) (lists : List 
     pub here : slice_get lists p ≡ Some list
     pub listed : Contains list number
     pub is_path : IsPath program section number path
-    pub named : lock_named path program.shape locals ≡ Some lock
+    pub named : Names path program.shape locals lock
 
   -- the first of the listed locks that are not held
   pub record Asks (p : ℕ) (locals : List Value) (held : List Lock) (lock : Lock) : Type 0 where
@@ -46,7 +46,7 @@ module _ (program : Typed) (section : Section) (ranks : List ℕ) (lists : List 
   abbrev pub Keeps : ℕ → List Value → List Value → Type 0
   Keeps p before after =
       (user : ℕ) (path : LockPath) → Uses program section user path → (BindsRoot section p path → ⊥) →
-      lock_named path program.shape after ≡ lock_named path program.shape before
+      locks_named path program.shape after ≡ locks_named path program.shape before
 
   -- a run has come to the point with these values of the locals, and holds these locks
   pub data Run : ℕ → List Value → List Lock → Type 0 where
@@ -61,3 +61,9 @@ module _ (program : Typed) (section : Section) (ranks : List ℕ) (lists : List 
     goes : {p q : ℕ} {locals after : List Value} {held : List Lock} → Run p locals held →
         ((lock : Lock) → IsListed p locals lock → Contains held lock) → Keeps p locals after → Follows (skeleton section) p q →
         Run q after held
+
+  -- the points that a run has executed, the latest first
+  abbrev pub executed : {p : ℕ} {locals : List Value} {held : List Lock} → Run p locals held → List ℕ
+  executed begins = []
+  executed (gets run asks) = executed run
+  executed (goes {p} run all keeps follows) = p ∷ executed run

@@ -1,13 +1,15 @@
 -- Invariants between the manager's parts. Nobody has to believe these.
 use Rattle.std.specs.Prelude.{◌≡◌, ◌<◌, ◌≤◌, ℕ, ◌+◌, List, [], ◌∷◌, length, map, slice_set, slice_index_or, Option}
-use Rattle.std.specs.Prelude.{Some, None}
+use Rattle.std.specs.Prelude.{Some, None, Bool, true, false}
 use Rattle.std.specs.List.{All}
 use Rattle.core_lang.specs.declared.value.Value.{Value}
 use Rattle.locks.specs.declared.lock.Lock.{Lock}
+use Rattle.locks.specs.Locks.{among}
 use Rattle.code.specs.Memory.{overwritten, Agrees}
 use Rattle.moved_cells.specs.Working.Grants.{GrantOf, cells_in, locks_of}
 use Rattle.history.specs.Working.Histories.{PromisedOf}
 use Rattle.lock_manager.specs.declared.places.LockPlace.{LockPlace}
+use Rattle.lock_manager.specs.declared.queue.Waiter.{Waiter}
 use Rattle.lock_manager.specs.Working.Committed.{CommittedOf, restored}
 use Rattle.lock_manager.specs.Manager.{SessionOf, Managed, session_in}
 use Rattle.lock_manager.specs.Working.Managers.{given_back}
@@ -42,6 +44,16 @@ abbrev pub Rise : List (ℕ × Value) → Type 0
 Rise writes =
     (i : ℕ) (d : ℕ × Value) → i + 1 < length writes →
     (slice_index_or writes i d).0 < (slice_index_or writes (i + 1) d).0
+
+-- 1 for true
+abbrev pub one_if : Bool → ℕ
+one_if true = 1
+one_if false = 0
+
+-- the number of waiters that wait for one of these locks
+abbrev pub awaiting : List Waiter → List Lock → ℕ
+awaiting [] held = 0
+awaiting (w ∷ ws) held = one_if (among held w.lock) + awaiting ws held
 
 -- the list of threads to wake is empty, and has room for one thread for each lock that the section can hold
 pub record HasWakingRoom (session : SessionOf) (woken capacity : ℕ) : Type 0 where

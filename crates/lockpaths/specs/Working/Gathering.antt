@@ -72,18 +72,18 @@ abbrev pub through_of : Option Protection → List ℕ
 through_of None = []
 through_of (Some p) = p.through.items
 
--- the lock path of a field of a base, given the normal form of the base with the annotation after it, if that is a
--- stable path
-abbrev pub field_path : Typed → ℕ → ℕ → Option StablePath → Option LockPath
-field_path program s f base =
-    lookup (protection_of program s f) (λ (p : Protection). lookup (slice_get program.classes.items p.class) (λ (c : LockClass). under c p base))
+-- the lock path of a field of a base in a section, given the normal form of the base with the annotation after it, if
+-- that is a stable path
+abbrev pub field_path : Typed → Section → ℕ → ℕ → Option StablePath → Option LockPath
+field_path program section s f base =
+    lookup (protection_of program s f) (λ (p : Protection). lookup (slice_get program.classes.items p.class) (λ (c : LockClass). under section c p base))
 
 module _ (program : Typed) (section : Section) (rs : List Replacement) where
   -- the lock path of a target, with normal forms by the table
   abbrev pub path_by : Target → Option LockPath
   path_by (global cell) = lookup (slice_get program.cells.items cell) (λ (c : Cell). option_map global_path (class_if_global program c.owner))
   path_by (element array) = lookup (slice_get program.shape.arrays.items array) (λ (x : Array). Some (global_path x.class))
-  path_by (field local base s f) = field_path program s f (option_map (form_by rs (through_of (protection_of program s f))) (stable section local base))
+  path_by (field local base s f) = field_path program section s f (option_map (form_by rs (through_of (protection_of program s f))) (stable section local base))
 
   abbrev pub with_access : Gathered → Access → Gathered
   with_access g a = met g a.start (path_by a.target)

@@ -1,5 +1,6 @@
 -- Laws of lock paths, as the laws of `src/laws.rt` claim them.
-use Rattle.std.specs.Prelude.{◌≡◌, ◌↔◌, ◌⊎◌, ℕ, true, List, slice_get, Some, None}
+use Rattle.std.specs.Prelude.{◌≡◌, ◌↔◌, ◌⊎◌, ℕ, true, false, List, [], slice_get, Option, Some, None}
+use Rattle.std.specs.Option.{option_map}
 use Rattle.std.specs.List.{Contains}
 use Rattle.core_lang.specs.declared.value.Value.{Value}
 use Rattle.core_lang.specs.declared.shape.Shape.{Shape}
@@ -8,8 +9,10 @@ use Rattle.core_lang.specs.declared.tree.Local.{Local}
 use Rattle.core_lang.specs.declared.tree.LocalKind.TheVariants.{Parameter}
 use Rattle.core_lang.specs.declared.tree.Section.{Section}
 use Rattle.core_lang.specs.declared.typed.LockClass.{LockClass}
+use Rattle.core_lang.specs.declared.typed.LockClass.TheVariants as class
+use Rattle.core_lang.specs.declared.typed.Protection.{Protection}
 use Rattle.core_lang.specs.declared.typed.Typed.{Typed}
-use Rattle.core_lang.specs.Typing.{local_types, HaveTypes, IsHeap}
+use Rattle.core_lang.specs.Typing.{lookup, local_types, HaveTypes, IsHeap}
 use Rattle.core_lang.specs.Meaning.{State, GoesOn}
 use Rattle.core_lang.specs.WellFormed.{IsWellFormed, IsGlobalLock}
 use Rattle.core_lang.specs.Scopes.{IsWellScoped}
@@ -19,17 +22,19 @@ use Rattle.flow.specs.Points.{Point, points, IsScopeAt}
 use Rattle.flow.specs.Working.Effects.{effect_at}
 use Rattle.locks.specs.declared.lock.Lock.{Lock}
 use Rattle.locks.specs.declared.path.Root.{Root}
-use Rattle.locks.specs.declared.path.Root.TheVariants.{GlobalLock, Local as AtLocal}
-use Rattle.locks.specs.Accesses.{Access, accesses_at}
-use Rattle.locks.specs.Locks.{IsLock, lock_of_cell}
+use Rattle.locks.specs.declared.path.Root.TheVariants.{GlobalLock, WholeClass, Local as AtLocal}
+use Rattle.locks.specs.Accesses.{Access, Target, global, element, field, accesses_at}
+use Rattle.locks.specs.Locks.{IsLock, protection_of, lock_of_cell}
 use Rattle.locks.specs.Working.Reached.{Reaches}
 use Rattle.locks.specs.LockPaths.{LockPath, StablePath, Binding, IsLet, stable, stable_value, owner_of, owned_path}
-use Rattle.locks.specs.LockPaths.{bindings, behind, normal_form, lock_path, lock_paths, lock_named, same_path, Uses}
-use Rattle.locks.specs.LockPaths.{IsInScope, BindsRoot, LetsAgree}
+use Rattle.locks.specs.LockPaths.{bindings, behind, normal_form, global_path, whole_class, is_listed, protected_path}
+use Rattle.locks.specs.LockPaths.{normal_base, under, target_path, lock_path, lock_paths, same_path, Uses, IsInScope}
+use Rattle.locks.specs.LockPaths.{BindsRoot, locks_named, Names, LetsAgree}
 use Rattle.locks.specs.Faults.{HasSection}
 
 -- if each local and cell has a value of its type, and each `let` in scope the value that its initialiser had, then the
--- path of an access at a point of a well-formed program names the lock that protects the cell which the access reaches
+-- lock that protects the cell which an access at a point of a well-formed program reaches is among those that the path
+-- of the access names
 abbrev pub PathsNameTheLocks : Type 0
 PathsNameTheLocks =
     (program : Typed) (section : Section) (p : ℕ) (point : Point) (scope : List ℕ) (locals heap : List Value) (a : Access)
@@ -38,14 +43,14 @@ PathsNameTheLocks =
     HaveTypes program.shape (local_types section.locals.items) locals → IsHeap program heap →
     LetsAgree section scope program.shape locals →
     Contains (accesses_at point) a → lock_path program section a ≡ Some path → Reaches program.shape locals heap a.target cell →
-    (lock : Lock) × (lock_named path program.shape locals ≡ Some lock) × (lock_of_cell program cell ≡ Some lock)
+    (lock : Lock) × Names path program.shape locals lock × (lock_of_cell program cell ≡ Some lock)
 
--- if each local has a value of its type, a path that a point uses names a lock of the program
+-- if each local has a value of its type, each lock that a path which a point uses names is a lock of the program
 abbrev pub NamedAreLocks : Type 0
 NamedAreLocks =
     (program : Typed) (section : Section) (p : ℕ) (path : LockPath) (locals : List Value) (lock : Lock) → IsWellFormed program →
     HasSection program section → HaveTypes program.shape (local_types section.locals.items) locals → Uses program section p path →
-    lock_named path program.shape locals ≡ Some lock → IsLock program lock
+    Names path program.shape locals lock → IsLock program lock
 
 -- a path that a point uses is in scope there
 abbrev pub UsedAreInScope : Type 0
@@ -72,16 +77,23 @@ LetsKeepAgreeing =
     slice_get (points section) p ≡ Some point → IsScopeAt section p scope → IsScopeAt section q after →
     Follows (skeleton section) p q → LetsAgree section scope shape s.locals → effect_at point shape s ≡ GoesOn t → LetsAgree section after shape t.locals
 
--- a path that the section uses names the same lock after a point as before it, unless the point binds its root
+-- a path that the section uses names the same locks after a point as before it, unless the point binds its root
 abbrev pub NamesStay : Type 0
 NamesStay =
     (program : Typed) (section : Section) (p user : ℕ) (point : Point) (path : LockPath) (s t : State) → IsWellScoped section →
     slice_get (points section) p ≡ Some point → Uses program section user path → (BindsRoot section p path → ⊥) →
-    effect_at point program.shape s ≡ GoesOn t → lock_named path program.shape t.locals ≡ lock_named path program.shape s.locals
+    effect_at point program.shape s ≡ GoesOn t → locks_named path program.shape t.locals ≡ locks_named path program.shape s.locals
 
--- a path with no root has the class of a global lock, and one with a root that of a lock field
+-- a lock field of this struct
+abbrev pub IsFieldOf : ℕ → LockClass → Type 0
+IsFieldOf structure (class.Global name) = ⊥
+IsFieldOf structure (class.Field s l) = s ≡ structure
+
+-- a global lock has the class of one, a whole class that of a lock field of its struct, and a path from a local that of
+-- a lock field
 abbrev pub IsClassFor : Root → LockClass → Type 0
 IsClassFor GlobalLock c = IsGlobalLock c
+IsClassFor (WholeClass s) c = IsFieldOf s c
 IsClassFor (AtLocal k) c = IsGlobalLock c → ⊥
 
 -- the class of a path that a point uses is one of the program's
@@ -89,6 +101,38 @@ abbrev pub PathsHaveClasses : Type 0
 PathsHaveClasses =
     (program : Typed) (section : Section) (p : ℕ) (path : LockPath) → IsWellFormed program → Uses program section p path →
     (c : LockClass) × (slice_get program.classes.items path.class ≡ Some c) × IsClassFor path.root c
+
+-- under the lock of a struct whose class the section lists, the path is the whole class, whatever the base
+abbrev pub ListedAreWhole : Type 0
+ListedAreWhole =
+    (section : Section) (structure lock : ℕ) (protection : Protection) (base : Option StablePath) →
+    is_listed section protection.class ≡ true →
+    under section (class.Field structure lock) protection base ≡ Some (whole_class protection.class structure)
+
+-- the lock path under a lock in a language without lists
+abbrev pub unlisted : LockClass → Protection → Option StablePath → Option LockPath
+unlisted (class.Global name) protection base = Some (global_path protection.class)
+unlisted (class.Field s l) protection base = option_map (protected_path protection) base
+
+-- under a lock whose class the section does not list, the path is what it is without lists
+abbrev pub OthersAreUnlisted : Type 0
+OthersAreUnlisted =
+    (section : Section) (c : LockClass) (protection : Protection) (base : Option StablePath) →
+    is_listed section protection.class ≡ false → under section c protection base ≡ unlisted c protection base
+
+-- the lock path of an access in a language without lists
+abbrev pub unlisted_path : Typed → Section → Target → Option LockPath
+unlisted_path program section (global cell) = target_path program section (global cell)
+unlisted_path program section (element array) = target_path program section (element array)
+unlisted_path program section (field local base s f) =
+    lookup (protection_of program s f) (λ (p : Protection). lookup (slice_get program.classes.items p.class) (λ (c : LockClass).
+    unlisted c p (option_map (normal_base section p) (stable section local base))))
+
+-- each path of a section that lists nothing is what it is without lists
+abbrev pub ListlessAreUnlisted : Type 0
+ListlessAreUnlisted =
+    (program : Typed) (section : Section) (a : Access) → section.listed.items ≡ [] →
+    lock_path program section a ≡ unlisted_path program section a.target
 
 -- a path over the final reference that a `where` tests has the normal form of the path from the owner
 abbrev pub NormalFormOfOwned : Type 0

@@ -1,10 +1,12 @@
 -- The most that one run of a section can need.
 use Rattle.std.specs.Prelude.{◌≡◌, ℕ, ◌==◌, max, if◌then◌else◌, List, [], ◌∷◌, length, slice_get, Some}
-use Rattle.std.specs.List.{sum_by}
+use Rattle.std.specs.List.{sum_by, count_by}
 use Rattle.core_lang.specs.declared.tree.Section.{Section}
 use Rattle.core_lang.specs.declared.typed.Typed.{Typed}
 use Rattle.locks.specs.declared.lock.Lock.{Lock}
-use Rattle.locks.specs.LockPaths.{LockPath, lock_paths}
+use Rattle.locks.specs.declared.path.Root.{Root}
+use Rattle.locks.specs.declared.path.Root.TheVariants.{GlobalLock, WholeClass, Local as AtLocal}
+use Rattle.locks.specs.LockPaths.{LockPath, lock_paths, most_locks}
 use Rattle.layout.specs.declared.room.Room.{Room}
 use Rattle.layout.specs.LockCells.{cells_of}
 use Rattle.layout.specs.Layouts.{LayoutOf}
@@ -22,11 +24,25 @@ most_among cell_locks (lock ∷ locks) class =
 abbrev pub most_cells : LayoutOf → ℕ → ℕ
 most_cells layout class = most_among layout.cell_locks layout.locks class
 
--- the most that one run of a section needs: a lock for each of its lock paths, with the most cells that a lock of the
--- path's class protects, the operands of its deepest stack, and its locals
+-- the number of cells that the locks of a class protect together
+abbrev pub all_cells : LayoutOf → ℕ → ℕ
+all_cells layout class = count_by (λ (lock : Lock). lock.class == class) layout.cell_locks
+
+-- the most cells that the locks which a path of this class names protect: those of one lock, or those of the whole class
+abbrev pub cells_from : LayoutOf → Root → ℕ → ℕ
+cells_from layout GlobalLock class = most_cells layout class
+cells_from layout (WholeClass structure) class = all_cells layout class
+cells_from layout (AtLocal local) class = most_cells layout class
+
+-- the most cells that the locks which a path names protect
+abbrev pub cells_under : LayoutOf → LockPath → ℕ
+cells_under layout path = cells_from layout path.root path.class
+
+-- the most that one run of a section needs: the locks that its lock paths can name together, with the most cells that
+-- these can protect, the operands of its deepest stack, and its locals
 pub record IsRoomOf (program : Typed) (layout : LayoutOf) (section : Section) (room : Room) : Type 0 where
-  pub locks : room.locks ≡ length (lock_paths program section)
-  pub cells : room.cells ≡ sum_by (λ (path : LockPath). most_cells layout path.class) (lock_paths program section)
+  pub locks : room.locks ≡ most_locks program.shape (lock_paths program section)
+  pub cells : room.cells ≡ sum_by (cells_under layout) (lock_paths program section)
   pub operands : room.operands ≡ operand_need section
   pub locals : room.locals ≡ length section.locals.items
 

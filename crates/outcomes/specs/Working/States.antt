@@ -1,5 +1,6 @@
 -- The states between the calls of a program, as data.
 use Rattle.std.specs.Prelude.{◌≡◌, ℕ, ◌+◌, ◌<◌, List, [], length, slice_index_or, sum_by, Option}
+use Rattle.std.specs.declared.hash.FoldHasher.{FoldHasher}
 use Rattle.core_lang.specs.declared.value.Value.{Value}
 use Rattle.core_lang.specs.declared.value.Outcome.{Outcome}
 use Rattle.outcomes.specs.Ends.{Left}
@@ -31,10 +32,11 @@ reached_of opening s = record {
 abbrev pub entry_state : List Value → Entry → Reached
 entry_state opening e = reached_of opening e.state
 
--- states, and the values of the cells before any call
+-- states, the values of the cells before any call, and the hasher of states
 pub record Layered : Type 0 where
   pub opening : List Value
   pub states : List Reached
+  pub start : FoldHasher
 
 -- a state for a number without one
 abbrev pub nowhere : Reached

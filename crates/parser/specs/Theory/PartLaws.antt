@@ -3,24 +3,27 @@ use Rattle.std.proofs.Common.{◌≡◌, ℕ, suc, ◌+◌, Bool, true, false, c
 use Rattle.source.specs.declared.span.Span.{Span}
 use Rattle.source.specs.declared.token.Keyword.TheVariants as keyword
 use Rattle.source.specs.declared.token.Sign.{Sign}
-use Rattle.source.specs.declared.token.Sign.TheVariants.{OpenParen, CloseParen, OpenBracket, CloseBracket, Dot, Minus}
+use Rattle.source.specs.declared.token.Sign.TheVariants.{OpenParen, CloseParen, OpenBracket, CloseBracket, Comma, Dot}
+use Rattle.source.specs.declared.token.Sign.TheVariants.{Minus}
 use Rattle.source.specs.Tokens.{Lexeme, name, word, mark, Tok}
 use Rattle.source.specs.Tokens as lexeme
 use Rattle.source.specs.declared.token.Number.{Number}
 use Rattle.syntax.specs.Trees.{Ident, ValueType, int_type, ref_type, Const, int_const, negative, null_const}
-use Rattle.syntax.specs.Trees.{member_const, Protection, Param}
+use Rattle.syntax.specs.Trees.{member_const, Protection, Param, ClassName}
 use Rattle.syntax.specs.Grammar.{tok, name_tok, IsOpening, IsOptional, AreMany, no_more, IsAfter, after, AreListed}
 use Rattle.syntax.specs.Grammar.{none_listed, IsName, is_name, IsType, is_int_type, is_ref_type, IsConst}
 use Rattle.syntax.specs.Grammar.{is_int_const, is_negative, is_null_const, is_member_const, IsIndex, is_index}
-use Rattle.syntax.specs.Grammar.{IsProtection, is_protection, IsParam, is_param}
-use Rattle.parser.specs.Working.Reading.{Reader, same_sign, refused, after_at}
+use Rattle.syntax.specs.Grammar.{IsProtection, is_protection, IsParam, is_param, IsClassName, is_class_name}
+use Rattle.syntax.specs.Grammar.{AreTakenWhole, none_taken, taken}
+use Rattle.parser.specs.Working.Reading.{Reader, same_sign, refused, after_at, given}
 use Rattle.parser.specs.Working.Parts.{type_from, type_at, negative_from, index_at, const_from, const_at}
-use Rattle.parser.specs.Working.Parts.{protection_at, maybe_protection, param_at, params_at}
+use Rattle.parser.specs.Working.Parts.{protection_at, maybe_protection, param_at, params_at, class_at}
+use Rattle.parser.specs.Working.Parts.{class_list_at, whole_at, classes_at}
 use Rattle.parser.specs.Theory.Law.{same_sign-true, Law, give_law, at_rest, Head, refuses, takes, first_law, IsTok}
 use Rattle.parser.specs.Theory.Law.{is_tok, IsInt, is_int_tok, after_sign}
 use Rattle.parser.specs.Theory.Joined.{Done, done, Both, both, nowhere, Part, ends_with, then_part, then_open}
 use Rattle.parser.specs.Theory.Joined.{production, sign_part, word_part, name_part, int_part, maybe_part, listed_part}
-use Rattle.parser.specs.Theory.Joined.{after_each_part}
+use Rattle.parser.specs.Theory.Joined.{after_each_part, choose_law, weaken_law}
 
 -- ---- the result of the parts of each production
 
@@ -65,6 +68,26 @@ params_is : {y : List Param} {ts rest : List Tok} →
     Both (IsTok (mark OpenParen)) (λ b. Both (AreListed IsParam) (λ ps. Both (IsTok (mark CloseParen)) (λ c. Done ps)))
     y ts rest → IsParams y ts rest
 params_is (both is_tok (both ps (both is_tok done))) = is_params ps
+
+class_is : {y : ClassName} {ts rest : List Tok} →
+    Both IsName (λ s. Both (IsTok (mark Dot)) (λ d. Both IsName (λ l. Done (record { structure = s; lock = l })))) y
+    ts rest → IsClassName y ts rest
+class_is (both is_name (both is_tok (both is_name done))) = is_class_name
+
+-- one or more classes with commas between them
+pub data AreClasses : List ClassName → List Tok → List Tok → Type 0 where
+  are_classes : {c : ClassName} {cs : List ClassName} {ts mid rest : List Tok} → IsClassName c ts mid →
+      AreMany (IsAfter Comma IsClassName) cs mid rest → AreClasses (c ∷ cs) ts rest
+
+class_list_is : {y : List ClassName} {ts rest : List Tok} →
+    Both IsClassName (λ c. Both (AreMany (IsAfter Comma IsClassName)) (λ cs. Done (c ∷ cs))) y ts rest →
+    AreClasses y ts rest
+class_list_is (both c (both cs done)) = are_classes c cs
+
+whole_is : {y : List ClassName} {ts rest : List Tok} →
+    Both (IsTok (word keyword.Lock)) (λ w. Both (IsTok (mark OpenParen)) (λ b. Both AreClasses
+    (λ cs. Both (IsTok (mark CloseParen)) (λ e. Done cs)))) y ts rest → AreTakenWhole y ts rest
+whole_is (both is_tok (both is_tok (both (are_classes c cs) (both is_tok done)))) = taken c cs
 
 -- one part alone
 pub one_is : {A B : Type 0} {R : A → List Tok → List Tok → Type 0} {make : A → B} (RH : B → List Tok → List Tok →
@@ -148,6 +171,38 @@ module _ (limit : ℕ) where
       tok
           (word keyword.Int) nowhere ∷ name_tok no_name ∷ rest,
       is_param is_int_type,
+    );
+  }
+
+  pub class_law : (d : ℕ) → Law limit IsClassName class_at 1 d d
+  unfolding class_at
+  class_law d = production limit IsClassName (then_part limit (name_part limit d)
+      (then_part limit (sign_part limit Dot d (λ o. o)) (then_part limit (name_part limit d)
+      (ends_with limit (λ x. record { structure = x.0.0.1; lock = x.1 }))))) (λ y ts rest r. class_is r)
+
+  class_part : {P : Type 0} (d : ℕ) → Part limit P IsClassName class_at 1 d d
+  class_part d = record {
+    law = λ p. class_law d;
+    can = λ rest. (
+      record { structure = no_name; lock = no_name },
+      name_tok no_name ∷ tok (mark Dot) nowhere ∷ name_tok no_name ∷ rest,
+      is_class_name,
+    );
+  }
+
+  class_list_law : (d : ℕ) → Law limit AreClasses class_list_at 1 d d
+  unfolding class_list_at
+  class_list_law d = production limit AreClasses (then_part limit (class_part d)
+      (then_part limit (after_each_part limit Comma d refl (λ o. o) (class_part d))
+      (ends_with limit (λ x. x.0.1 ∷ x.1)))) (λ y ts rest r. class_list_is r)
+
+  class_list_part : {P : Type 0} (d : ℕ) → Part limit P AreClasses class_list_at 1 d d
+  class_list_part d = record {
+    law = λ p. class_list_law d;
+    can = λ rest. (
+      record { structure = no_name; lock = no_name } ∷ [],
+      name_tok no_name ∷ tok (mark Dot) nowhere ∷ name_tok no_name ∷ rest,
+      are_classes is_class_name no_more,
     );
   }
 
@@ -242,4 +297,23 @@ module _ (limit : ℕ) where
             (mark CloseParen) nowhere ∷ rest,
         is_params none_listed,
       );
+    }
+
+    -- ---- lock classes that a section takes whole
+
+    whole_law : Law limit AreTakenWhole (whole_at room) 1 d d
+    unfolding whole_at
+    whole_law =
+        production limit AreTakenWhole
+        (then_part limit (word_part limit keyword.Lock d) (then_open limit OpenParen room sum tt
+        (then_part limit (class_list_part (suc d)) (then_part limit (sign_part limit CloseParen (suc d) (λ o. o))
+        (ends_with limit (λ x. x.0.1))))))
+        (λ y ts rest r. whole_is r)
+
+    pub classes_part : {P : Type 0} → Part limit P AreTakenWhole (classes_at room) 0 d d
+    classes_part = record {
+      law = λ p. choose_law limit AreTakenWhole (word keyword.Lock) (whole_at room) (given []) 0 d d
+          (weaken_law limit AreTakenWhole (whole_at room) d d whole_law)
+          (give_law limit AreTakenWhole [] d (λ ts. none_taken));
+      can = λ rest. ([], rest, none_taken);
     }

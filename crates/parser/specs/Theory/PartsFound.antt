@@ -1,25 +1,27 @@
 -- Tokens that have a tree are read, unless a sign is too deep: types, constants, parameters and annotations.
-use Rattle.std.proofs.Common.{ℕ, List, ◌∷◌, Ok, refl}
+use Rattle.std.proofs.Common.{ℕ, List, [], ◌∷◌, Ok, refl}
 use Rattle.source.specs.declared.span.Span.{Span}
 use Rattle.source.specs.declared.token.Keyword.TheVariants as keyword
 use Rattle.source.specs.declared.token.Sign.{Sign}
-use Rattle.source.specs.declared.token.Sign.TheVariants.{OpenParen, CloseParen, OpenBracket, CloseBracket, Dot}
+use Rattle.source.specs.declared.token.Sign.TheVariants.{OpenParen, CloseParen, OpenBracket, CloseBracket, Comma, Dot}
 use Rattle.source.specs.Tokens.{word, mark, Tok}
 use Rattle.source.specs.declared.token.Number.{Number}
-use Rattle.syntax.specs.Trees.{Const, member_const, Protection, Param}
+use Rattle.syntax.specs.Trees.{Const, member_const, Protection, Param, ClassName}
 use Rattle.syntax.specs.Grammar.{tok, int_tok, IsOptional, AreMany, IsAfter, after, AreListed, IsName, is_name}
 use Rattle.syntax.specs.Grammar.{IsType, is_int_type, is_ref_type, IsConst, is_int_const, is_negative, is_null_const}
 use Rattle.syntax.specs.Grammar.{is_member_const, IsIndex, is_index, IsProtection, is_protection, IsParam, is_param}
-use Rattle.parser.specs.Working.Reading.{Reader, name_at, int_at, skip_at, after_at}
+use Rattle.syntax.specs.Grammar.{IsClassName, is_class_name, AreTakenWhole, none_taken, taken}
+use Rattle.parser.specs.Working.Reading.{Reader, name_at, int_at, skip_at, after_at, given}
 use Rattle.parser.specs.Working.Parts.{type_at, index_at, const_at, protection_at, maybe_protection, param_at}
-use Rattle.parser.specs.Working.Parts.{params_at}
+use Rattle.parser.specs.Working.Parts.{params_at, class_at, class_list_at, whole_at, classes_at}
 use Rattle.parser.specs.Theory.Law.{IsTok, is_tok, IsInt, is_int_tok}
 use Rattle.parser.specs.Theory.Joined.{Done, done, Both, both}
-use Rattle.parser.specs.Theory.PartLaws.{IsParams, is_params}
-use Rattle.parser.specs.Theory.Shorter.{next_name_shortens, next_param_shortens}
+use Rattle.parser.specs.Theory.PartLaws.{IsParams, is_params, AreClasses, are_classes}
+use Rattle.parser.specs.Theory.Shorter.{next_name_shortens, next_param_shortens, next_class_shortens}
 use Rattle.parser.specs.Theory.Finding.{found, finds_then, FindsPart, Anything, ends_found, then_found, and_found}
 use Rattle.parser.specs.Theory.Finding.{production_found, sign_found, word_found, open_then, name_found, int_found}
 use Rattle.parser.specs.Theory.Finding.{NotNext, IsNext, maybe_found, NoSign, each_found, Closes, listed_found}
+use Rattle.parser.specs.Theory.Finding.{choose_left, choose_right}
 
 -- ---- types and constants
 
@@ -130,3 +132,51 @@ params_found room =
     next_param_shortens param_begins) (λ x a y ts rest r f. close_closes r)
     (and_found (sign_found CloseParen) (ends_found (λ x. x.0.1)))))
     (λ y ts rest h. params_back h)
+
+-- ---- lock classes that a section takes whole
+
+class_back : {y : ClassName} {ts rest : List Tok} → IsClassName y ts rest →
+    Both IsName (λ s. Both (IsTok (mark Dot)) (λ d. Both IsName (λ l. Done (record { structure = s; lock = l })))) y
+    ts rest
+class_back is_class_name = both is_name (both is_tok (both is_name done))
+
+class_found : FindsPart Anything IsClassName class_at
+unfolding class_at
+class_found = production_found IsClassName (and_found name_found (and_found (sign_found Dot) (and_found name_found
+    (ends_found (λ x. record { structure = x.0.0.1; lock = x.1 }))))) (λ y ts rest h. class_back h)
+
+class_list_back : {y : List ClassName} {ts rest : List Tok} → AreClasses y ts rest →
+    Both IsClassName (λ c. Both (AreMany (IsAfter Comma IsClassName)) (λ cs. Done (c ∷ cs))) y ts rest
+class_list_back (are_classes c cs) = both c (both cs done)
+
+class_list_found : FindsPart (NoSign Comma) AreClasses class_list_at
+unfolding class_list_at
+class_list_found = production_found AreClasses (and_found class_found (then_found {F = NoSign Comma}
+    (each_found IsClassName class_at class_found Comma next_class_shortens) (λ x a y ts rest r f. done_no_comma r f)
+    (ends_found (λ x. x.0.1 ∷ x.1)))) (λ y ts rest h. class_list_back h)
+  where
+    done_no_comma : {A : Type 0} {x y : A} {ts rest : List Tok} → Done x y ts rest → NoSign Comma rest → NoSign Comma ts
+    done_no_comma done f = f
+
+-- `lock` and classes in parentheses
+abbrev IsWholePart : List ClassName → List Tok → List Tok → Type 0
+IsWholePart = Both (IsTok (word keyword.Lock)) (λ w. Both (IsTok (mark OpenParen)) (λ b. Both AreClasses
+    (λ cs. Both (IsTok (mark CloseParen)) (λ e. Done cs))))
+
+whole_found : (room : ℕ) → FindsPart Anything IsWholePart (whole_at room)
+unfolding whole_at
+whole_found room =
+    production_found IsWholePart
+    (and_found (word_found keyword.Lock) (open_then OpenParen room
+    (λ r e. then_found {F = NoSign Comma} class_list_found (λ x a y ts rest r f. (close_closes r).no_comma)
+    (and_found (sign_found CloseParen) (ends_found (λ x. x.0.1))))))
+    (λ y ts rest h. h)
+
+pub classes_found : (room : ℕ) → FindsPart (NotNext (word keyword.Lock)) AreTakenWhole (classes_at room)
+classes_found room _ ts mid none_taken follow = choose_right (word keyword.Lock) (whole_at room) (given []) ts ([], mid)
+    follow (found refl)
+classes_found room _ _ rest (taken {c = c} {cs = cs} {start = start} {before = begin} {ts = ts} n more)
+    follow =
+    let us = tok (word keyword.Lock) start ∷ tok (mark OpenParen) begin ∷ ts in
+    choose_left (word keyword.Lock) (whole_at room) (given []) us (c ∷ cs, rest) refl (whole_found room (c ∷ cs) us rest
+    (both is_tok (both is_tok (both (are_classes n more) (both is_tok done)))) tt)

@@ -7,16 +7,16 @@ use Rattle.source.specs.declared.token.Sign.{Sign}
 use Rattle.source.specs.declared.token.Sign.TheVariants.{Comma, Dot}
 use Rattle.source.specs.declared.token.Token.{Token}
 use Rattle.source.specs.Tokens.{Tok, seen_token, seen}
-use Rattle.syntax.specs.Grammar.{IsAfter, IsName, IsConst, IsParam}
+use Rattle.syntax.specs.Grammar.{IsAfter, IsName, IsConst, IsParam, IsClassName}
 use Rattle.parser.specs.declared.stop.Stop.{Stop}
 use Rattle.parser.specs.Working.Reading.{Reader, next_after, skip_at, is_sign, name_at}
-use Rattle.parser.specs.Working.Parts.{const_at, param_at}
+use Rattle.parser.specs.Working.Parts.{const_at, param_at, class_at}
 use Rattle.parser.specs.Theory.Readers.{OnValue, Shortens}
 use Rattle.parser.specs.Theory.Many.{NextShortens}
 use Rattle.parser.specs.Theory.Laws.{law_shortens, next_shortens}
 use Rattle.parser.specs.Theory.Law.{name_law}
 use Rattle.parser.specs.Theory.Joined.{after_each_next}
-use Rattle.parser.specs.Theory.PartLaws.{const_law, param_law}
+use Rattle.parser.specs.Theory.PartLaws.{const_law, param_law, class_law}
 
 pub name_shortens : Shortens name_at
 name_shortens = law_shortens 0 IsName name_at 0 0 (name_law 0 0)
@@ -26,6 +26,9 @@ const_shortens room = law_shortens room IsConst (const_at room) 0 0 (const_law r
 
 pub param_shortens : Shortens param_at
 param_shortens = law_shortens 0 IsParam param_at 0 0 (param_law 0 0)
+
+pub class_shortens : Shortens class_at
+class_shortens = law_shortens 0 IsClassName class_at 0 0 (class_law 0 0)
 
 -- ---- turns
 
@@ -40,6 +43,10 @@ next_const_shortens room = next_shortens room (IsAfter Comma IsConst) (next_afte
 pub next_param_shortens : NextShortens (next_after Comma param_at)
 next_param_shortens = next_shortens 0 (IsAfter Comma IsParam) (next_after Comma param_at) 0
     (after_each_next 0 IsParam param_at 0 (param_law 0 0) Comma refl (λ o. o))
+
+pub next_class_shortens : NextShortens (next_after Comma class_at)
+next_class_shortens = next_shortens 0 (IsAfter Comma IsClassName) (next_after Comma class_at) 0
+    (after_each_next 0 IsClassName class_at 0 (class_law 0 0) Comma refl (λ o. o))
 
 -- a sign and an item take a token at least
 skip_less : (b : Bool) (t : Tok) (ts : List Tok) → IfSome (cond b (Some ts) None) (λ us. length us < length (t ∷ ts))

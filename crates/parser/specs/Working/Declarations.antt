@@ -13,7 +13,7 @@ use Rattle.parser.specs.declared.stop.Stop.{Stop}
 use Rattle.parser.specs.declared.stop.Stop.TheVariants.{Unexpected}
 use Rattle.parser.specs.Working.Reading.{◌>>=◌, Reader, many_at, first_at, refused, sign_at, open_at, word_at}
 use Rattle.parser.specs.Working.Reading.{name_at, int_at, next_until, listed_at, maybe_at, after_at, choose}
-use Rattle.parser.specs.Working.Parts.{type_at, index_at, const_at, maybe_protection, params_at}
+use Rattle.parser.specs.Working.Parts.{type_at, index_at, const_at, maybe_protection, params_at, classes_at}
 use Rattle.parser.specs.Working.Statements.{braced_at}
 
 -- reads a global that is an array, after its type and name
@@ -38,14 +38,24 @@ global_at room ts = do
   x ← name_at t.1
   choose (mark OpenBracket) (array_at room t.0 x.0) (variable_at room t.0 x.0) x.1
 
--- reads a section after the word `atomic`, or a helper after the word `call`
+-- reads a section, after the word `atomic`
 unfoldable pub section_at : ℕ → Reader Section
 section_at room ts = do
   x ← name_at ts
   ps ← params_at room x.1
   r ← maybe_at (mark Colon) (after_at Colon type_at) ps.1
+  cs ← classes_at room r.1
+  b ← braced_at room cs.1
+  Ok (record { name = x.0; params = ps.0; result = r.0; listed = cs.0; body = record { stmts = b.0.0; close = b.0.1 } }, b.1)
+
+-- reads a helper, after the word `call`
+unfoldable pub helper_at : ℕ → Reader Section
+helper_at room ts = do
+  x ← name_at ts
+  ps ← params_at room x.1
+  r ← maybe_at (mark Colon) (after_at Colon type_at) ps.1
   b ← braced_at room r.1
-  Ok (record { name = x.0; params = ps.0; result = r.0; body = record { stmts = b.0.0; close = b.0.1 } }, b.1)
+  Ok (record { name = x.0; params = ps.0; result = r.0; listed = []; body = record { stmts = b.0.0; close = b.0.1 } }, b.1)
 
 -- reads constants after an opening parenthesis, before which `room` signs could be opened
 unfoldable pub consts_in : ℕ → Reader (List Const)
@@ -188,7 +198,7 @@ decl_from room (word Atomic) at ts = do
   s ← section_at room ts
   Ok (atomic s.0, s.1)
 decl_from room (word Call) at ts = do
-  s ← section_at room ts
+  s ← helper_at room ts
   Ok (helper s.0, s.1)
 decl_from room (word Thread) at ts = do
   t ← thread_at room ts

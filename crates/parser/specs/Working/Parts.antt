@@ -1,16 +1,16 @@
--- Reading types, constants, parameters, annotations and optional parts.
-use Rattle.std.specs.Prelude.{ℕ, List, Option, Ok, if◌then◌else◌}
+-- Reading types, constants, parameters, annotations, lock classes and optional parts.
+use Rattle.std.specs.Prelude.{ℕ, List, [], ◌∷◌, Option, Ok, if◌then◌else◌}
 use Rattle.source.specs.declared.span.Span.{Span}
-use Rattle.source.specs.declared.token.Keyword.TheVariants.{Ref, Int, ProtectedBy, Null}
+use Rattle.source.specs.declared.token.Keyword.TheVariants.{Ref, Int, ProtectedBy, Null, Lock}
 use Rattle.source.specs.declared.token.Sign.TheVariants.{OpenParen, CloseParen, OpenBracket, CloseBracket, Colon, Dot}
-use Rattle.source.specs.declared.token.Sign.TheVariants.{Equals, Minus}
+use Rattle.source.specs.declared.token.Sign.TheVariants.{Equals, Minus, Comma}
 use Rattle.source.specs.Tokens.{Lexeme, name, word, mark}
 use Rattle.source.specs.Tokens as lexeme
 use Rattle.source.specs.declared.token.Number.{Number}
 use Rattle.syntax.specs.Trees.{Ident, ValueType, int_type, ref_type, Const, int_const, negative, null_const}
-use Rattle.syntax.specs.Trees.{member_const, Protection, Param}
+use Rattle.syntax.specs.Trees.{member_const, Protection, Param, ClassName}
 use Rattle.parser.specs.Working.Reading.{Reader, same_sign, first_at, refused, sign_at, open_at, word_at, name_at}
-use Rattle.parser.specs.Working.Reading.{int_at, after_each, listed_at, maybe_at, after_at, ◌>>=◌}
+use Rattle.parser.specs.Working.Reading.{int_at, after_each, listed_at, maybe_at, after_at, choose, given, ◌>>=◌}
 
 -- ---- types and constants
 
@@ -94,3 +94,32 @@ maybe_value room = maybe_at (mark Equals) (after_at Equals (const_at room))
 -- a type after `:`, or nothing
 abbrev pub maybe_result : Reader (Option ValueType)
 maybe_result = maybe_at (mark Colon) (after_at Colon type_at)
+
+-- ---- lock classes that a section takes whole
+
+unfoldable pub class_at : Reader ClassName
+class_at ts = do
+  s ← name_at ts
+  dot ← sign_at Dot s.1
+  l ← name_at dot.1
+  Ok (record { structure = s.0; lock = l.0 }, l.1)
+
+-- a class, and further ones after commas
+unfoldable pub class_list_at : Reader (List ClassName)
+class_list_at ts = do
+  first ← class_at ts
+  more ← after_each Comma class_at first.1
+  Ok (first.0 ∷ more.0, more.1)
+
+-- `lock` and classes in parentheses
+unfoldable pub whole_at : ℕ → Reader (List ClassName)
+whole_at room ts = do
+  start ← word_at Lock ts
+  begin ← open_at OpenParen room start.1
+  cs ← class_list_at begin.1
+  close ← sign_at CloseParen cs.1
+  Ok (cs.0, close.1)
+
+-- the classes, or nothing
+abbrev pub classes_at : ℕ → Reader (List ClassName)
+classes_at room = choose (word Lock) (whole_at room) (given [])

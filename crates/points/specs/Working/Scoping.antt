@@ -8,7 +8,7 @@ use Rattle.core_lang.specs.Scopes.{scope_after, scope_after_all}
 use Rattle.flow.specs.Points.{Point, bound_at, inner_scopes, scopes_of_all}
 use Rattle.flow.specs.Theory.TreeScopes.{names}
 use Rattle.locks.specs.declared.path.Root.{Root}
-use Rattle.locks.specs.declared.path.Root.TheVariants.{GlobalLock, Local as AtLocal}
+use Rattle.locks.specs.declared.path.Root.TheVariants.{GlobalLock, WholeClass, Local as AtLocal}
 use Rattle.locks.specs.declared.path.LockPath as written
 use Rattle.locks.specs.declared.path_set.PathSet.{PathSet}
 use Rattle.locks.specs.Sets.{has}
@@ -16,10 +16,12 @@ use Rattle.points.specs.Working.Dataflow.{column}
 
 abbrev pub is_at : ℕ → Root → Bool
 is_at k GlobalLock = false
+is_at k (WholeClass s) = false
 is_at k (AtLocal j) = k == j
 
 abbrev pub is_among : List ℕ → Root → Bool
 is_among scope GlobalLock = true
+is_among scope (WholeClass s) = true
 is_among scope (AtLocal k) = names k scope
 
 -- the result of a test of a path's root; false without a path

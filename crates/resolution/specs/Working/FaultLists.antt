@@ -21,9 +21,9 @@ use Rattle.syntax.specs.Trees.{member_const, Place, lone, element, path, Expr, i
 use Rattle.syntax.specs.Trees.{compare, Links, no_links, link, HelperCall, CalledLocal, Stmt, let_local, let_owned}
 use Rattle.syntax.specs.Trees.{let_call, var_local, assign, if_then, while, print, return_value, Stmts, no_stmts}
 use Rattle.syntax.specs.Trees.{stmt, Otherwise, no_else, else_do, Protection, Member, lock_member, final_member}
-use Rattle.syntax.specs.Trees.{field_member, Struct, Variable, Array, Pool, Init, Param, Section, Item, call, repeat}
-use Rattle.syntax.specs.Trees.{Items, no_items, item, Decl, lock, struct, global, array, pool, init, atomic, helper}
-use Rattle.syntax.specs.Trees.{thread}
+use Rattle.syntax.specs.Trees.{field_member, Struct, Variable, Array, Pool, Init, Param, ClassName, Section, Item}
+use Rattle.syntax.specs.Trees.{call, repeat, Items, no_items, item, Decl, lock, struct, global, array, pool, init}
+use Rattle.syntax.specs.Trees.{atomic, helper, thread}
 use Rattle.core_lang.specs.declared.value.ValueType as core_type
 use Rattle.core_lang.specs.declared.value.ValueType.TheVariants.{Integer, Reference}
 use Rattle.core_lang.specs.declared.tree.LocalKind.TheVariants.{Parameter}
@@ -47,7 +47,7 @@ use Rattle.resolution.specs.Limits.{SECTION_LIMIT, THREAD_LIMIT, CALL_LIMIT, sec
 use Rattle.resolution.specs.Scopes.{Scope, Local, outside, Meaning, a_local, a_decl, nothing, meaning, helper_meant}
 use Rattle.resolution.specs.Scopes.{place_of, count, declared, bears, the_decl, alike, has_body, the_struct}
 use Rattle.resolution.specs.Scopes.{member_name, member_bears, the_member, the_local, type_of, result_of, has_type}
-use Rattle.resolution.specs.Scopes.{member_has_type, struct_named, bound, entered, left}
+use Rattle.resolution.specs.Scopes.{member_has_type, struct_named, same_class, bound, entered, left}
 use Rattle.resolution.specs.Numbers.{is_lock, classes_of, objects_of, cells_of, calls_of, total}
 use Rattle.resolution.specs.Expressions.{ResolvedExpr, value, truth, fits, fits_type, fits_sort, alike_sorts, want}
 use Rattle.resolution.specs.Working.TypedExpressions.{typed}
@@ -406,6 +406,32 @@ abbrev pub result_faults : List Decl → Option ValueType → List Finding
 result_faults decls None = []
 result_faults decls (Some t) = type_faults (outside decls) t
 
+-- ---- listed lock classes
+
+-- the fault of a name that was declared before
+abbrev pub again : ℕ → Option ℕ → List Finding
+again start None = []
+again start (Some i) = one DeclaredTwice start
+
+-- the fault of a listed member that is not a lock
+abbrev pub no_lock : List Decl → ℕ → Option (ℕ × Member) → List Finding
+no_lock decls start None = one UnknownName start
+no_lock decls start (Some (i, lock_member x)) = []
+no_lock decls start (Some (i, m)) = unfit_member decls (told WrongType start why.ListedMember) m
+
+abbrev pub no_lock_in : List Decl → Option (ℕ × Decl) → Ident → List Finding
+no_lock_in decls (Some (i, struct s)) x = no_lock decls x.span.start (the_member s.members x.text)
+no_lock_in decls _ x = []
+
+-- the faults of a listed lock class by itself
+abbrev pub class_faults : List Decl → ClassName → List Finding
+class_faults decls c = type_faults (outside decls) (ref_type c.structure) ++ no_lock_in decls (the_decl decls c.structure.text) c.lock
+
+-- the faults of listed lock classes, given those before
+abbrev pub listed_faults : List Decl → List ClassName → List ClassName → List Finding
+listed_faults decls before [] = []
+listed_faults decls before (c ∷ cs) = class_faults decls c ++ again c.structure.span.start (place_of same_class before c) ++ listed_faults decls (before ++ c ∷ []) cs
+
 -- ---- annotations
 
 -- the fault of an annotation that has to name a global lock
@@ -549,7 +575,9 @@ array_faults decls a = type_faults (outside decls) a.value_type ++ lock_faults d
 
 -- the faults of a section or a helper, from the scope before its parameters
 abbrev pub faults_in : Scope → Section → List Finding
-faults_in sc s = result_faults sc.decls s.result ++ param_faults sc 0 s.params ++ stmts_faults (entered sc s.params) s.body.stmts
+faults_in sc s =
+    result_faults sc.decls s.result ++ param_faults sc 0 s.params ++ stmts_faults (entered sc s.params) s.body.stmts
+    ++ listed_faults sc.decls [] s.listed
 
 abbrev pub section_faults : List Decl → BodyLimits → Section → List Finding
 section_faults decls limits s = faults_in (ahead_of decls limits s) s
@@ -572,11 +600,6 @@ each_faults decls i [] = []
 each_faults decls i (d ∷ ds) = decl_faults decls i d ++ each_faults decls (i + 1) ds
 
 -- ---- names and counts, given the declarations before
-
--- the fault of a name that was declared before
-abbrev pub again : ℕ → Option ℕ → List Finding
-again start None = []
-again start (Some i) = one DeclaredTwice start
 
 abbrev pub twice : List Decl → Option Ident → List Finding
 twice before (Some x) = again x.span.start (place_of bears before x.text)

@@ -1,10 +1,11 @@
 -- The representation of an open section. Nobody has to believe this file.
-use Rattle.std.specs.Prelude.{◌≡◌, ◌≤◌, ℕ, Bool, false, List, [], length, Option, Some, None, vec_capacity}
+use Rattle.std.specs.Prelude.{◌≡◌, ◌≤◌, ℕ, Bool, false, List, [], ◌++◌, length, Option, Some, None}
 use Rattle.std.specs.List.{sum_by}
 use Rattle.core_lang.specs.declared.value.Value.{Value}
 use Rattle.core_lang.specs.declared.value.Outcome.{Outcome}
 use Rattle.core_lang.specs.Serial.{Invocation}
 use Rattle.locks.specs.declared.lock.Lock.{Lock}
+use Rattle.locks.specs.Sets.{has}
 use Rattle.core_lang.specs.WellFormed.{CanCall}
 use Rattle.layout.specs.declared.room.Room.{Room}
 use Rattle.layout.specs.LockCells.{cells_of}
@@ -22,6 +23,7 @@ use Rattle.history.specs.Commits.{Commit}
 use Rattle.history.specs.Working.Histories.{IsWithin}
 use Rattle.runner_machine.specs.Working.Held.{cells_granted}
 use Rattle.runner.specs.declared.body.SectionFrame.{SectionFrame}
+use Rattle.runner.specs.Working.Asked.{AreTaken}
 use Rattle.runner.specs.Working.Opens.{OpenOf, IsOpen, AreItsGrants, Gets, Waits, ticket_of, further, moved}
 
 -- a call
@@ -52,7 +54,7 @@ its_call b = call_of b.section b.arguments.items
 
 -- the open section of a frame
 abbrev pub open_in : Plan → TicketOf → SectionFrame → OpenOf
-open_in plan ticket b = open_as plan ticket b.step (its_call b) b.machine b.pending.items b.asked
+open_in plan ticket b = open_as plan ticket b.step (its_call b) b.machine b.pending.locks b.asked
 
 -- the number of cells of these locks together
 abbrev pub cells_together : Plan → List Lock → ℕ
@@ -70,6 +72,10 @@ pub record IsKeptOpen (o : OpenOf) (ticket : TicketOf) (run : RunOf) (pending_ro
   pub pending_fits : o.room.locks ≤ pending_room
   pub cells : length o.activation.machine.memory.cells ≡ cells_together o.plan o.activation.held
   pub few_arguments : length o.activation.call.arguments ≤ 8
+
+-- each lock that a taken path of the frame names is held or pending
+abbrev pub AreTakenIn : Plan → TicketOf → SectionFrame → Type 0
+AreTakenIn plan ticket b = AreTaken plan b.section (ticket.session.held ++ b.pending.locks) b.taken
 
 -- the section with an outcome
 abbrev pub over_by : OpenOf → Outcome → OpenOf
@@ -92,9 +98,10 @@ pub record IsBeginning (plan : Plan) (b : SectionFrame) : Type 0 where
   pub fits : CanCall plan.program b.section b.arguments.items
   pub room_is : IsRoomAt plan b.section b.room
   pub run_is : b.machine ≡ at_first (locals_at plan (its_call b)) plan.layout b.room
-  pub none_pending : b.pending.items ≡ []
+  pub none_pending : b.pending.locks ≡ []
+  pub none_taken : (i : ℕ) → has b.taken i ≡ false
   pub not_asked : b.asked ≡ false
-  pub pending_fits : b.room.locks ≤ vec_capacity b.pending
+  pub pending_fits : b.room.locks ≤ b.pending.room
 
 -- the section that begins when the history has the given length
 abbrev pub begun_as : Plan → ℕ → ℕ → Room → ℕ → Invocation → OpenOf

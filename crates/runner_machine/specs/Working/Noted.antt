@@ -68,3 +68,9 @@ pub record AreNotes (cells : List ℕ) (n : NotesOf) : Type 0 where
   pub marked : 0 < n.room → (k : ℕ) (x : ℕ × Value) → slice_get n.list k ≡ Some x → IsMarked cells n.marks x.0 k
   pub once : EachOnce n.list
   pub long : n.room ≤ length n.marks
+
+-- no notes, and the given number of places
+pub record AreEmptyNotes (places : ℕ) (n : NotesOf) : Type 0 where
+  pub list : n.list ≡ []
+  pub room : n.room ≡ places
+  pub long : places ≤ length n.marks

@@ -10,8 +10,8 @@ use Rattle.syntax.specs.Trees.{compare, Links, no_links, link, Local, Owner, Hel
 use Rattle.syntax.specs.Trees.{let_owned, let_call, var_local, assign, if_then, while, print, return_value, Stmts}
 use Rattle.syntax.specs.Trees.{no_stmts, stmt, Otherwise, no_else, else_do, Block, Protection, Variable, Array, Final}
 use Rattle.syntax.specs.Trees.{Field, Member, lock_member, final_member, field_member, Struct, Pool, Init, Param}
-use Rattle.syntax.specs.Trees.{Section, Call, Item, call, repeat, Items, no_items, item, Thread, Decl, lock, struct}
-use Rattle.syntax.specs.Trees.{global, array, pool, init, atomic, helper, thread}
+use Rattle.syntax.specs.Trees.{ClassName, Section, Call, Item, call, repeat, Items, no_items, item, Thread, Decl}
+use Rattle.syntax.specs.Trees.{lock, struct, global, array, pool, init, atomic, helper, thread}
 use Rattle.syntax.specs.Views.{option_of}
 use Rattle.syntax.specs.Grammar.{HasTree}
 
@@ -122,8 +122,11 @@ bare_init i = record { start = nowhere; pool = bare_name i.pool; index = bare_nu
 abbrev pub bare_param : Param → Param
 bare_param p = record { name = bare_name p.name; value_type = bare_type p.value_type }
 
+abbrev pub bare_class : ClassName → ClassName
+bare_class c = record { structure = bare_name c.structure; lock = bare_name c.lock }
+
 abbrev pub bare_section : Section → Section
-bare_section s = record { name = bare_name s.name; params = map bare_param s.params; result = option_of bare_type s.result; body = bare_block s.body }
+bare_section s = record { name = bare_name s.name; params = map bare_param s.params; result = option_of bare_type s.result; listed = map bare_class s.listed; body = bare_block s.body }
 
 abbrev pub bare_call : Call → Call
 bare_call c = record { section = bare_name c.section; arguments = map bare_const c.arguments }

@@ -11,9 +11,9 @@ use Rattle.syntax.specs.Trees.{member_const, Place, lone, element, path, Expr, i
 use Rattle.syntax.specs.Trees.{compare, Links, no_links, link, Local, Owner, HelperCall, CalledLocal, Stmt, let_local}
 use Rattle.syntax.specs.Trees.{let_owned, let_call, var_local, assign, if_then, while, print, return_value, Stmts}
 use Rattle.syntax.specs.Trees.{no_stmts, stmt, Otherwise, no_else, else_do, Protection, Variable, Array, Member}
-use Rattle.syntax.specs.Trees.{lock_member, final_member, field_member, Struct, Pool, Init, Param, Section, Call}
-use Rattle.syntax.specs.Trees.{Item, call, repeat, Items, no_items, item, Thread, Decl, lock, struct, global, array}
-use Rattle.syntax.specs.Trees.{pool, init, atomic, helper, thread}
+use Rattle.syntax.specs.Trees.{lock_member, final_member, field_member, Struct, Pool, Init, Param, ClassName, Section}
+use Rattle.syntax.specs.Trees.{Call, Item, call, repeat, Items, no_items, item, Thread, Decl, lock, struct, global}
+use Rattle.syntax.specs.Trees.{array, pool, init, atomic, helper, thread}
 use Rattle.syntax.specs.Grammar.{sign_of, prefix_sign, comparison_sign}
 
 -- ---- lists, and parts that may be left out
@@ -186,11 +186,19 @@ pool_text p = codes "pool " ++ p.target.text ++ codes " " ++ p.name.text ++ inde
 abbrev pub init_text : Init → List ℕ
 init_text i = codes "init " ++ i.pool.text ++ index_text i.index ++ codes "." ++ i.field.text ++ codes " = " ++ const_text i.value ++ codes ";\n"
 
+abbrev pub class_name_text : ClassName → List ℕ
+class_name_text c = c.structure.text ++ codes "." ++ c.lock.text
+
+-- the lock classes that a section takes whole, if there are any
+abbrev pub whole_text : List ClassName → List ℕ
+whole_text [] = []
+whole_text (c ∷ cs) = codes " lock(" ++ listed_text class_name_text (c ∷ cs) ++ codes ")"
+
 -- a section or a helper, with this word before its name
 abbrev pub section_text : List ℕ → Section → List ℕ
 section_text word s =
     word ++ s.name.text ++ codes "(" ++ listed_text param_text s.params ++ codes ")"
-    ++ optional_text result_text s.result ++ codes " {" ++ stmts_text 1 s.body.stmts ++ codes "\n}\n"
+    ++ optional_text result_text s.result ++ whole_text s.listed ++ codes " {" ++ stmts_text 1 s.body.stmts ++ codes "\n}\n"
 
 abbrev pub decl_text : Decl → List ℕ
 decl_text (lock x) = codes "lock " ++ x.text ++ codes ";\n"

@@ -1,5 +1,5 @@
 -- A whole section, given the values of the code for its parts.
-use Rattle.std.specs.Prelude.{List, ◌++◌, Option, option_map}
+use Rattle.std.specs.Prelude.{ℕ, List, ◌++◌, Option, option_map}
 use Rattle.std.proofs.Common.{Vec, Global}
 use Rattle.syntax.specs.Trees.{Decl, Section}
 use Rattle.core_lang.specs.declared.tree.Local as the_local
@@ -16,8 +16,9 @@ use Rattle.types_bodies.specs.declared.stmt.BlockChecker as the_body
 abbrev pub locals_of : Option (Vec the_local.Local Global) → Option (List core.Local)
 locals_of v = option_map (λ ls. core_locals ls.items) v
 
-abbrev pub section_from : List Decl → Section → Vec the_local.Local Global → the_body.BlockChecker → Option core.Section
-section_from decls s locals body = section_with decls s (core_locals locals.items) (core_stmts body.stmts.items) s.result (option_map core_return body.result)
+abbrev pub section_from : List Decl → Section → Vec the_local.Local Global → Vec ℕ Global → the_body.BlockChecker →
+    Option core.Section
+section_from decls s locals classes body = section_with decls s (core_locals locals.items) classes.items (core_stmts body.stmts.items) s.result (option_map core_return body.result)
 
 -- the resolved section, if none of its parts is missing
 abbrev pub section_if : List Decl → Section → Option (Vec the_local.Local Global) → Option the_body.BlockChecker →

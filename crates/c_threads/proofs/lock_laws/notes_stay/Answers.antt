@@ -2,6 +2,7 @@ use Rattle.worlds.proofs.Covering.{CoverLaws}
 use Rattle.worlds.proofs.Going.{GoingLaws}
 use Rattle.c_threads.proofs.Taking.{TakingLaws}
 use Rattle.c_threads.proofs.Standing.{notes_stay}
+use Rattle.c_threads.proofs.Pools.{pools_rise}
 use Rattle.c_threads.proofs.lock_laws.notes_stay.Goals as goal
 
 pub returns : goal.returns
@@ -31,5 +32,7 @@ returns c =
     let taking : TakingLaws = record {
       classes = c.paths_have_classes.ensures;
       listed = c.each_path_once.ensures.listed;
+      once = c.each_path_once.ensures.once;
+      rise = pools_rise;
     } in
     notes_stay (record { going = going; taking = taking })

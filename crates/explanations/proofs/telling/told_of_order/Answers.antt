@@ -11,5 +11,5 @@ returns c = faultless (record {
   ranks = c.args.ordered.now.ranks.items;
   are_ranks = c.requires.ranks;
   tell = rw (c.program.ensures, c.deref.ensures.value) at c.in_ok-notes.ensures;
-  warned = c.in_ok-warnings.ensures;
+  warned = rw c.program-2.ensures at c.in_ok-warnings.ensures;
 })

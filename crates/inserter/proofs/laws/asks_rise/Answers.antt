@@ -1,6 +1,7 @@
 use Rattle.inserter.proofs.Listed.{PathLaws}
 use Rattle.inserter.proofs.Asked.{some_asked}
 use Rattle.inserter.proofs.RunLaws.{asks_rise, used_are_held, held_are_named, few_are_held}
+use Rattle.inserter.proofs.RunLaws.{whole_classes_are_held}
 use Rattle.inserter.proofs.laws.asks_rise.Goals as goal
 
 pub returns : goal.returns
@@ -17,4 +18,5 @@ returns c =
       held = used_are_held laws;
       named = held_are_named laws;
       few = few_are_held laws;
+      whole = whole_classes_are_held laws;
     }

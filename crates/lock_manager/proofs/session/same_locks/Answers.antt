@@ -1,24 +1,29 @@
-use Rattle.std.proofs.Common.{◌≡◌, ◌≤◌, ◌<◌, ℕ, Bool, true, false, get_or, refl, sym, subst, ◌∙◌}
-use Rattle.std.specs.Prelude.{not}
+use Rattle.std.proofs.Common.{◌≡◌, ◌-◌, ℕ, drop, get_or, length, refl, sym, subst, ◌∙◌, arith}
+use Rattle.std.proofs.lemmas.List.{drop_all}
 use Rattle.locks.specs.declared.lock.Lock.{Lock}
 use Rattle.locks.specs.Locks.{same_lock}
-use Rattle.std.proofs.lemmas.List.{take_all, take_more_same}
 use Rattle.locks.specs.Theory.Order.{same_is}
+use Rattle.lock_manager.proofs.Lists.{not_false, drop_less_same}
 use Rattle.lock_manager.proofs.session.same_locks.Goals as goal
 
-not_false : (b : Bool) → not b ≡ false → b ≡ true
-not_false true e = refl
-not_false false e = absurd cc
+pub loop-left-init : goal.loop-left-init
+loop-left-init c = record {
+  same = drop_all (length c.args.a.now) c.args.a.now (omega arith) ∙ sym (drop_all (length c.args.a.now) c.args.b.now (omega (arith, c.if-a-b.false)));
+  within = omega arith;
+}
 
-pub loop-i-preserved : goal.loop-i-preserved
-loop-i-preserved c =
+pub loop-left-preserved : goal.loop-left-preserved
+loop-left-preserved c =
     let d : Lock = record { class = 0; object = 0 } in
-    let a = get_or c.args.a.now c.loop-i.i d in
-    let b = get_or c.args.b.now c.loop-i.i d in
-    take_more_same c.args.a.now c.args.b.now c.loop-i.i d c.loop-i-test.true (subst (λ (n : ℕ). c.loop-i.i < n) c.if-a-b.false c.loop-i-test.true) c.loop-i.invariant
-    (same_is a b (not_false (same_lock a b) (sym c.ne.ensures ∙ c.if-ne.false)))
+    let a = get_or c.args.a.now (c.loop-left.left - 1) d in
+    let b = get_or c.args.b.now (c.loop-left.left - 1) d in
+    record {
+      same = drop_less_same c.args.a.now c.args.b.now c.loop-left.left d c.loop-left-test.true c.loop-left.invariant.within c.if-a-b.false
+          (same_is a b (not_false (same_lock a b) (sym c.ne.ensures ∙ c.if-ne.false))) c.loop-left.invariant.same;
+      within = omega (arith, c.loop-left.invariant.within);
+    }
 
 pub returns : goal.returns
 returns c =
-    let long = subst (λ (n : ℕ). n ≤ c.loop-i.i) c.if-a-b.false c.loop-i-test.false in
-    (λ e. sym (take_all c.loop-i.i c.args.a.now c.loop-i-test.false) ∙ c.loop-i.invariant ∙ take_all c.loop-i.i c.args.b.now long, λ same. refl)
+    let none : c.loop-left.left ≡ 0 = omega (arith, c.loop-left-test.false) in
+    (λ e. subst (λ (n : ℕ). drop n c.args.a.now ≡ drop n c.args.b.now) none c.loop-left.invariant.same, λ same. refl)

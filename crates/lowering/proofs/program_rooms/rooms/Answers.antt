@@ -7,13 +7,18 @@ use Rattle.std.proofs.lemmas.Option.{same_Some, slice_get_read}
 use Rattle.core_lang.specs.declared.tree.Section.{Section}
 use Rattle.core_lang.specs.declared.typed.Typed.{Typed}
 use Rattle.core_lang.specs.Theory.Items.{pushed_at}
-use Rattle.locks.specs.LockPaths.{LockPath, lock_path_of, lock_paths}
+use Rattle.locks.specs.declared.path.Root.{Root}
+use Rattle.locks.specs.declared.path.Root.TheVariants.{GlobalLock, WholeClass, Local as AtLocal}
+use Rattle.locks.specs.LockPaths.{lock_path_of, lock_paths, most_named}
 use Rattle.lockpaths.specs.declared.table.Paths.{Paths}
 use Rattle.lockpaths.specs.declared.table.SectionPaths.{SectionPaths}
 use Rattle.lockpaths.specs.Paths.{AreSectionPaths, ArePaths}
 use Rattle.layout.specs.declared.room.Room.{Room}
-use Rattle.lowering.specs.Working.Rooms.{IsRoomOf, most_cells}
-use Rattle.lowering.proofs.Most.{cells_same}
+use Rattle.layout.specs.Layouts.{LayoutOf}
+use Rattle.lowering.specs.declared.class_sizes.ClassSizes.{ClassSizes}
+use Rattle.lowering.specs.Working.Rooms.{IsRoomOf, cells_from, cells_under}
+use Rattle.lowering.specs.Working.Sizes.{AreSizes, cells_by_root, cells_by}
+use Rattle.lowering.proofs.Most.{sum_over}
 use Rattle.lowering.proofs.program_rooms.rooms.Goals as goal
 
 -- what is known of the lock paths of the section at hand
@@ -24,13 +29,12 @@ known program paths k section found are lt at is =
     are.each k section found (slice_get_read program.sections.items (length program.sections.items) k section refl lt at)
     (slice_get_read paths.sections.items (length paths.sections.items) k found refl (omega (arith, lt, are.sections)) is)
 
-pub cells_under-requires : goal.cells_under-requires
-cells_under-requires c =
-    let program = c.args.program.now in
-    let lt : c.loop-k.k < length program.sections.items = omega (arith, c.loop-k-test.true, c.len-k-end.ensures, program.sections.ok.0) in
-    let are = known program c.args.paths.now c.loop-k.k c.index-section.result.now c.index.result.now c.requires.paths lt c.index-section.ensures c.index.ensures in
-    let limit : length c.index.result.now.paths.items ≤ 64 = are.limit in
-    omega (arith, ap length c.deref.ensures.value, limit)
+-- by the tables, the cells under a path are those of the layout
+by_root : (program : Typed) (layout : LayoutOf) (x : ClassSizes) → AreSizes program layout x → (root : Root) (class : ℕ) →
+    cells_by_root x root class ≡ cells_from layout root class
+by_root program layout x are GlobalLock class = are.most class
+by_root program layout x are (WholeClass s) class = are.all class
+by_root program layout x are (AtLocal k) class = are.most class
 
 pub loop-k-preserved : goal.loop-k-preserved
 loop-k-preserved c =
@@ -41,20 +45,24 @@ loop-k-preserved c =
     let code = c.args.code.now in
     let made = c.index-in-loop-k.result.now in
     let is = c.requires.code.1 in
-    let room : Room = record { locks = c.len-in-loop-k.result; cells = c.cells_under.result; operands = made.operands; locals = c.len-in-loop-k-2.result } in
+    let sizes : ClassSizes = c.in_ok-sizes.sizes in
+    let room : Room = record { locks = c.in-Some.locks; cells = c.in-Some-cells_under.cells; operands = made.operands; locals = c.len-in-loop-k.result } in
     let lt : c.loop-k.k < length program.sections.items = omega (arith, c.loop-k-test.true, c.len-k-end.ensures, program.sections.ok.0) in
     let are = known program c.args.paths.now c.loop-k.k here found c.requires.paths lt c.index-section.ensures c.index.ensures in
     let there : slice_get program.sections.items c.loop-k.k ≡ Some here =
     slice_get_read program.sections.items (length program.sections.items) c.loop-k.k here refl lt c.index-section.ensures in
     let listed : map lock_path_of found.paths.items ≡ lock_paths program here = are.paths in
     let done : IsRoomOf program layout here room = record {
-      locks = c.len-in-loop-k.ensures ∙ found.paths.ok.0 ∙ sym (length-map found.paths.items lock_path_of) ∙ ap length listed;
+      locks =
+          c.in-Some.ensures
+          ∙ sum_over (most_named program.shape) (most_named program.shape) (λ path. refl) c.deref.result.now
+          ∙ ap (sum_by (most_named program.shape)) (ap (map lock_path_of) c.deref.ensures.value ∙ listed);
       cells =
-          c.cells_under.ensures
-          ∙ cells_same layout c.deref-in-loop-k.result.now (λ class. ap (λ t. slice_index t class) c.deref-in-loop-k.ensures.value ∙ c.in_ok-most.ensures class) c.deref.result.now
-          ∙ ap (sum_by (λ (path : LockPath). most_cells layout path.class)) (ap (map lock_path_of) c.deref.ensures.value ∙ listed);
+          c.in-Some-cells_under.ensures
+          ∙ sum_over (cells_by sizes) (cells_under layout) (λ path. by_root program layout sizes c.in_ok-sizes.ensures path.root path.class) c.deref-in-loop-k.result.now
+          ∙ ap (sum_by (cells_under layout)) (ap (map lock_path_of) c.deref-in-loop-k.ensures.value ∙ listed);
       operands = (is.each c.loop-k.k here made there (slice_get_read code.sections.items (length program.sections.items) c.loop-k.k made (sym is.long) lt c.index-in-loop-k.ensures)).operands;
-      locals = c.len-in-loop-k-2.ensures ∙ here.locals.ok.0;
+      locals = c.len-in-loop-k.ensures ∙ here.locals.ok.0;
     } in
     record {
       long = omega (arith, c.in_ok-push.ensures.len, c.loop-k.invariant.long, c.loop-k.rooms.ok.0, c.push.new.self.ok.0);

@@ -7,7 +7,7 @@ use Rattle.parser.proofs.decl.section.Goals as goal
 
 pub returns : goal.returns
 returns c =
-    section_done (seen c.args.tokens.now) c.in_ok-name.ensures c.args.room c.in_ok-params.ensures c.in_ok-result.ensures c.in_ok-body.ensures
+    section_done (seen c.args.tokens.now) c.in_ok-name.ensures c.args.room c.in_ok-params.ensures c.in_ok-result.ensures c.in_ok-listed.ensures c.in_ok-body.ensures
 
 pub returns-in_err-name : goal.returns-in_err-name
 unfolding section_at
@@ -27,8 +27,14 @@ returns-in_err-result c =
     let p = err_from_is_err_and c.from_residual-in_err-result.result c.from_residual-in_err-result.ensures.1 in
     rw (p.1, p.2, c.in_ok-name.ensures, c.in_ok-params.ensures) (fails_on c.in_err-result.field-0.0 _ _ c.in_err-result.ensures)
 
+pub returns-in_err-listed : goal.returns-in_err-listed
+unfolding section_at
+returns-in_err-listed c =
+    let p = err_from_is_err_and c.from_residual-in_err-listed.result c.from_residual-in_err-listed.ensures.1 in
+    rw (p.1, p.2, c.in_ok-name.ensures, c.in_ok-params.ensures, c.in_ok-result.ensures) (fails_on c.in_err-listed.field-0.0 _ _ c.in_err-listed.ensures)
+
 pub returns-in_err-body : goal.returns-in_err-body
 unfolding section_at
 returns-in_err-body c =
     let p = err_from_is_err_and c.from_residual-in_err-body.result c.from_residual-in_err-body.ensures.1 in
-    rw (p.1, p.2, c.in_ok-name.ensures, c.in_ok-params.ensures, c.in_ok-result.ensures) (fails_on c.in_err-body.field-0.0 _ _ c.in_err-body.ensures)
+    rw (p.1, p.2, c.in_ok-name.ensures, c.in_ok-params.ensures, c.in_ok-result.ensures, c.in_ok-listed.ensures) (fails_on c.in_err-body.field-0.0 _ _ c.in_err-body.ensures)

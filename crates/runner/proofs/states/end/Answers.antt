@@ -1,4 +1,4 @@
-use Rattle.std.specs.Prelude.{◌≡◌, vec_capacity}
+use Rattle.std.specs.Prelude.{◌≡◌}
 use Rattle.std.proofs.Common.{sym, ap, ◌∙◌, subst}
 use Rattle.runner_machine.specs.Working.Machines.{IsFinished}
 use Rattle.runner.specs.declared.body.SectionFrame.{SectionFrame}
@@ -15,7 +15,7 @@ invariant_of-result c =
     let run = c.finish.new.self in
     let grants = c.finish.new.grants.items in
     let same_body : c.deref_mut-block.result.now ≡ b = c.deref_mut-block.ensures.value in
-    let over : IsOver x.program.now x.ticket b.step (its_call b) b.machine b.pending.items b.asked (vec_capacity b.pending) outcome
+    let over : IsOver x.program.now x.ticket b.step (its_call b) b.machine b.pending.locks b.asked b.pending.room outcome
     run grants =
     record {
       kept = c.opened.invariant.0;
@@ -26,7 +26,7 @@ invariant_of-result c =
     subst (λ (b : SectionFrame).
     IsKeptEnded (ended_as x.program.now x.ticket b.step (its_call b) run grants b.asked outcome) x.ticket run grants
     (entry_of (ended_as x.program.now x.ticket b.step (its_call b) run grants b.asked outcome) outcome)) (sym same_body)
-    (kept_ended x.program.now x.ticket b.step (its_call b) b.machine b.pending.items b.asked (vec_capacity b.pending) outcome
+    (kept_ended x.program.now x.ticket b.step (its_call b) b.machine b.pending.locks b.asked b.pending.room outcome
     run grants c.sections_stay_in_order.ensures over)
 
 pub returns : goal.returns
@@ -37,7 +37,7 @@ returns c =
     let run = c.finish.new.self in
     let grants = c.finish.new.grants.items in
     let same_body : c.deref_mut-block.result.now ≡ b = c.deref_mut-block.ensures.value in
-    let over : IsOver x.program.now x.ticket b.step (its_call b) b.machine b.pending.items b.asked (vec_capacity b.pending) outcome
+    let over : IsOver x.program.now x.ticket b.step (its_call b) b.machine b.pending.locks b.asked b.pending.room outcome
     run grants =
     record {
       kept = c.opened.invariant.0;
@@ -46,6 +46,6 @@ returns c =
       finished = subst (λ (b : SectionFrame). IsFinished b.machine grants run) same_body c.finish.ensures;
     } in
     ap (λ (b : SectionFrame). ended_as x.program.now x.ticket b.step (its_call b) run grants b.asked outcome) same_body
-    ∙ ended_is x.program.now x.ticket b.step (its_call b) b.machine b.pending.items b.asked (vec_capacity b.pending) outcome
+    ∙ ended_is x.program.now x.ticket b.step (its_call b) b.machine b.pending.locks b.asked b.pending.room outcome
     run grants over
     ∙ ap (λ (s : OpenOf). over_by s outcome) c.opened.view_is

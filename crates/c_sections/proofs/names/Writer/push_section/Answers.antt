@@ -43,10 +43,10 @@ lines_text marks program listed x b =
 -- the section's text, by its code and its lock paths
 is_text : (prefix : List ℕ) (program : Typed) (section : Section) (lists : List (List ℕ)) (mark : Option (ℕ → List ℕ)) (code : List Instr)
     (paths : List LockPath) (n : ℕ) → n ≡ length paths → code ≡ section_code lists section → paths ≡ lock_paths program section →
-    front_text prefix program section code n ++ end_text section (prints code) n ++ checks prefix program section
+    front_text prefix program section code n ++ end_text program section (prints code) paths ++ checks prefix program section
     ++ body_text program section lists paths mark code ++ codes "}\n" ≡ section_text prefix program section lists mark
 is_text prefix program section lists mark code paths n count is all =
-    ap (λ k. front_text prefix program section code k ++ end_text section (prints code) k ++ checks prefix program section
+    ap (λ k. front_text prefix program section code k ++ end_text program section (prints code) paths ++ checks prefix program section
     ++ body_text program section lists paths mark code ++ codes "}\n") count
     ∙ ap (λ c. text_of prefix program section lists c paths mark) is
     ∙ ap (λ ps. text_of prefix program section lists (section_code lists section) ps mark) all
@@ -81,7 +81,7 @@ returns c =
     let mark = marks_of c.args.marks listed.code.now in
     let old = string_bytes c.args.out.now in
     let a = front_of x listed in
-    let z = end_text listed.section.now (prints (code_of listed)) n in
+    let z = end_text program listed.section.now (prints (code_of listed)) paths in
     let t = checks x.prefix.now program listed.section.now in
     let b = body_text program listed.section.now (lists_of listed) paths mark (code_of listed) in
     let m1 = string_bytes c.push_front.new.out in
@@ -95,7 +95,7 @@ returns c =
     (more old (a ++ z) t m2 m3
     (more old a z m1 m2 c.in_ok-push_front.ensures
     (c.in_ok-push_end.ensures
-    ∙ ap (λ p. m1 ++ end_text listed.section.now p n) (c.prints-printed.ensures ∙ ap prints c.deref.ensures.value)))
+    ∙ ap (λ p. m1 ++ end_text program listed.section.now p paths) (c.prints-printed.ensures ∙ ap prints c.deref.ensures.value)))
     c.in_ok-push_checks.ensures)
     (c.in_ok-push.ensures ∙ ap (λ t. m3 ++ t) (lines_text c.args.marks program listed lines c.in_ok-lines.ensures.body)))
     c.in_ok-push_str.ensures.bytes in

@@ -7,6 +7,9 @@ use Rattle.lock_manager.proofs.Lists.{never_both}
 use Rattle.lock_manager.proofs.manager.Manager.are_of.Goals as goal
 use Rattle.core_lang.specs.Theory.Items.{all_contained, all_from, both_false}
 
+pub are_in_step-requires : goal.are_in_step-requires
+are_in_step-requires c = subst (λ (v : Managed). All (Contains v.layout.locks) c.args.held.now) (sym c.self.view_is) c.requires
+
 pub are_whole-requires : goal.are_whole-requires
 are_whole-requires c =
     subst (λ (v : Managed). All (λ (g : GrantOf). Contains v.layout.locks g.lock) c.args.grants.now) (sym c.self.view_is)

@@ -53,9 +53,8 @@ returns-then-not-agrees c =
 
 pub returns-then-not-are_own : goal.returns-then-not-are_own
 returns-then-not-are_own c =
-    let held = c.held-2.ensures ∙ ap (λ (s : SessionOf). s.held) c.session-session.ensures in
-    let locks : c.self.inside.committed.layout.cell_locks ≡ c.args.self.now.layout.cell_locks = ap (λ (m : Managed). m.layout.cell_locks) c.self.view_is in
-    (λ t. absurd (false≢true t), λ can. c.if-not-are_own.ensures.1 (rw (locks, held, c.writes.ensures) can.1.writes))
+    let m = c.args.self.now in
+    (λ t. absurd (false≢true t), λ can. c.if-not-are_own.ensures.1 (subst (All (IsOwnWrite m.layout.cell_locks c.args.ticket.now.session.held)) (sym c.writes.ensures) can.1.writes))
 
 pub are_now-requires-clause-whole : goal.are_now-requires-clause-whole
 are_now-requires-clause-whole c =
@@ -89,8 +88,7 @@ returns c =
     let x = c.self.inside in
     let values = ap (λ (v : Managed). v.values) c.self.view_is in
     let locks = ap (λ (v : Managed). v.layout.cell_locks) c.self.view_is in
-    let held = c.held.ensures ∙ ap (λ (s : SessionOf). s.held) c.session-session.ensures in
-    let held_too = c.held-2.ensures ∙ ap (λ (s : SessionOf). s.held) c.session-session.ensures in (
+    let held = c.held.ensures ∙ ap (λ (s : SessionOf). s.held) c.session-session.ensures in (
       λ e. (
         c.knows.ensures.0 c.if-not-knows.false,
         record {
@@ -99,9 +97,7 @@ returns c =
           thread = sym c.thread.ensures ∙ c.if-thread.false ∙ c.thread-2.ensures;
           begun = sym c.begun.ensures ∙ c.if-begun.false ∙ c.begun-else-thread.ensures ∙ ap (λ (s : SessionOf). s.begun) c.session-session.ensures;
           reads = subst (λ (h : List Value). Agrees h entry.reads) values (subst (Agrees x.committed.values) c.reads.ensures (c.agrees.ensures.0 c.if-not-agrees.false));
-          writes = subst (λ (ls : List Lock). All (IsOwnWrite ls ticket.session.held) entry.writes) locks
-              (subst (λ (ls : List Lock). All (IsOwnWrite x.committed.layout.cell_locks ls) entry.writes) held_too
-              (subst (All (IsOwnWrite x.committed.layout.cell_locks c.held-2.result.now)) c.writes.ensures (c.are_own.ensures.0 c.if-not-are_own.false)));
+          writes = subst (All (IsOwnWrite m.layout.cell_locks ticket.session.held)) c.writes.ensures (c.are_own.ensures.0 c.if-not-are_own.false);
           now = subst (λ (h : List Value). All (λ (g : GrantOf). Agrees (overwritten h entry.writes) (cells_in m.layout.cell_locks g)) grants) values
               (subst (λ (ls : List Lock). All (λ (g : GrantOf). Agrees (overwritten x.committed.values entry.writes) (cells_in ls g)) grants) locks
               (subst (λ (ws : List (ℕ × Value)). All (λ (g : GrantOf). Agrees (overwritten x.committed.values ws) (cells_in x.committed.layout.cell_locks g)) grants) c.writes-2.ensures

@@ -41,6 +41,7 @@ returns-clause-begins c =
       room_is = c.room-room.ensures;
       run_is = c.in_ok-renew.ensures.ok ∙ (λ i. at_first (locals i) (c.layout.ensures i) c.room-room.result);
       none_pending = c.in_ok-empty_for.ensures.none;
+      none_taken = c.new-self.ensures;
       not_asked = refl;
       pending_fits = c.in_ok-empty_for.ensures.room;
     }

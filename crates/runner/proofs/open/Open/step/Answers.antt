@@ -1,10 +1,11 @@
-use Rattle.std.specs.Prelude.{◌≡◌, ℕ, Some, vec_capacity}
+use Rattle.std.specs.Prelude.{◌≡◌, ◌++◌, ℕ, Some}
 use Rattle.std.proofs.Common.{refl, sym, ap, ◌∙◌, subst}
 use Rattle.core_lang.specs.declared.typed.Typed.{Typed}
 use Rattle.code.specs.Machine.{Effect, Moves, act}
 use Rattle.code.specs.Memory.{HeldCells, load_held, store_held}
 use Rattle.worlds.specs.Worlds.{next_effect}
 use Rattle.runner_machine.specs.Working.Machines.{RunOf, FitsRoom, HasSmallCells, with_machine}
+use Rattle.runner.specs.Working.Asked.{AreTaken}
 use Rattle.runner.specs.Working.Opens.{OpenOf}
 use Rattle.runner.specs.Working.Ties.{open_as, open_in, its_call, IsKeptOpen}
 use Rattle.runner.specs.declared.body.SectionFrame.{SectionFrame}
@@ -65,13 +66,44 @@ invariant_of-self c =
     is ∙ ap (λ (t : Typed). act load_held store_held t.shape (Some i) b.machine.machine) (sym typed)
     ∙ ap (λ (b : SectionFrame). act load_held store_held c.expanded.result.now.shape (Some i) b.machine.machine) (sym same_body)
     ∙ c.in-Moved.ensures.0 in
-    let kept = kept_moving o x.ticket x.body.value.machine (vec_capacity x.body.value.pending) m
+    let kept = kept_moving o x.ticket x.body.value.machine x.body.value.pending.room m
     c.steps_go_alike.ensures.keeps c.sections_stay_in_order.ensures r c.self.invariant.0 moves in
     let at_run = subst (λ (run : RunOf).
-    IsKeptOpen (open_as x.program.now x.ticket b.step (its_call b) run b.pending.items b.asked)
-    x.ticket run (vec_capacity b.pending)) (sym (c.in-Moved.ensures.1 ∙ ap (λ (b : SectionFrame). with_machine b.machine m) same_body)) kept in (
+    IsKeptOpen (open_as x.program.now x.ticket b.step (its_call b) run b.pending.locks b.asked)
+    x.ticket run b.pending.room) (sym (c.in-Moved.ensures.1 ∙ ap (λ (b : SectionFrame). with_machine b.machine m) same_body)) kept in (
       subst (λ (b : SectionFrame).
-          IsKeptOpen (open_as x.program.now x.ticket b.step (its_call b) c.step.new.self b.pending.items b.asked)
-          x.ticket c.step.new.self (vec_capacity b.pending)) (sym same_body) at_run,
+          IsKeptOpen (open_as x.program.now x.ticket b.step (its_call b) c.step.new.self b.pending.locks b.asked)
+          x.ticket c.step.new.self b.pending.room) (sym same_body) at_run,
       ap (λ (b : SectionFrame). b.grants.items) same_body ∙ c.self.invariant.1,
+      subst (λ (b : SectionFrame). AreTaken x.program.now b.section (x.ticket.session.held ++ b.pending.locks) b.taken) (sym same_body) c.self.invariant.2,
+    )
+
+pub invariant_of-self-in-Asks : goal.invariant_of-self-in-Asks
+invariant_of-self-in-Asks c =
+    let x = c.self.inside in
+    let now = c.deref_mut-body.result.now in
+    let same_body : now ≡ x.body.value = c.deref_mut-body.ensures.value in
+    let at_body = subst (λ (b : SectionFrame).
+    IsKeptOpen (open_as x.program.now x.ticket b.step (its_call b) b.machine b.pending.locks b.asked) x.ticket b.machine b.pending.room)
+    (sym same_body) c.self.invariant.0 in (
+      subst (λ (run : RunOf).
+          IsKeptOpen (open_as x.program.now x.ticket now.step (its_call now) run now.pending.locks now.asked) x.ticket run now.pending.room)
+          (sym c.in-Asks.ensures.1) at_body,
+      ap (λ (b : SectionFrame). b.grants.items) same_body ∙ c.self.invariant.1,
+      subst (λ (b : SectionFrame). AreTaken x.program.now b.section (x.ticket.session.held ++ b.pending.locks) b.taken) (sym same_body) c.self.invariant.2,
+    )
+
+pub invariant_of-self-in-Finished : goal.invariant_of-self-in-Finished
+invariant_of-self-in-Finished c =
+    let x = c.self.inside in
+    let now = c.deref_mut-body.result.now in
+    let same_body : now ≡ x.body.value = c.deref_mut-body.ensures.value in
+    let at_body = subst (λ (b : SectionFrame).
+    IsKeptOpen (open_as x.program.now x.ticket b.step (its_call b) b.machine b.pending.locks b.asked) x.ticket b.machine b.pending.room)
+    (sym same_body) c.self.invariant.0 in (
+      subst (λ (run : RunOf).
+          IsKeptOpen (open_as x.program.now x.ticket now.step (its_call now) run now.pending.locks now.asked) x.ticket run now.pending.room)
+          (sym c.in-Finished.ensures.1) at_body,
+      ap (λ (b : SectionFrame). b.grants.items) same_body ∙ c.self.invariant.1,
+      subst (λ (b : SectionFrame). AreTaken x.program.now b.section (x.ticket.session.held ++ b.pending.locks) b.taken) (sym same_body) c.self.invariant.2,
     )

@@ -1,4 +1,5 @@
 use Rattle.std.proofs.Common.{rules, arith}
+use Rattle.runner_machine.proofs.Holds.{none_held, no_runs}
 use Rattle.runner_machine.proofs.Steps.{kept_over, left_over, few_reads, few_writes}
 use Rattle.runner_machine.proofs.holding.Holding.finish.Goals as goal
 
@@ -8,6 +9,9 @@ invariant_of-self c = (
       c.args.self.now c.self.view_is c.swap.new.x.items (search rules)
       c.finish.new.self c.finish-2.new.self c.finish.ensures.list c.finish.ensures.room c.finish-2.ensures.list c.finish-2.ensures.room,
   omega arith,
+  omega arith,
+  none_held c.swap.new.x.items c.clear.new.self.items (search rules) (search rules),
+  no_runs c.clear.new.self.items (search rules),
 )
 
 pub returns-clause-left : goal.returns-clause-left

@@ -1,4 +1,4 @@
-use Rattle.std.proofs.Common.{◌≡◌, ◌∙◌, ◌++◌, List, [], Option, ap}
+use Rattle.std.proofs.Common.{◌≡◌, ◌∙◌, ◌++◌, List, [], ap}
 use Rattle.resolution.specs.declared.finding.Finding.{Finding}
 use Rattle.resolution.specs.Working.Findings.{Firsts, found_in}
 use Rattle.syntax.specs.declared.tree.Decl as rust
