@@ -82,11 +82,7 @@ fn push_unlock_at(
 }
 
 /// Appends the release of every lock, that of the last path first.
-pub fn push_unlocks(
-    out: &mut String,
-    program: &Typed,
-    paths: &[LockPath],
-) -> Result<(), AllocError>
+pub fn push_unlocks(out: &mut String, program: &Typed, paths: &[LockPath]) -> Result<(), AllocError>
     ensures { OnOk result (AddsText (downward (text.unlock_line program.now (map lock_path_of paths.now))
         (length paths.now)) out.old out.new) }
 {

@@ -90,11 +90,7 @@ impl Lister<'_> {
     }
 
     // Appends the warnings on the classes that the section lists.
-    fn push_classes(
-        &self,
-        names: &[ClassName],
-        warnings: &mut Vec<Warning>,
-    ) -> Result<(), NoMemory>
+    fn push_classes(&self, names: &[ClassName], warnings: &mut Vec<Warning>) -> Result<(), NoMemory>
         requires { AreSectionPaths self.now.program.now self.now.section.now self.now.found.now }
         ensures { OnOk result (Adds
             (class_warnings self.now.program.now self.now.section.now 0 (map class_name_of names.now)) warnings.old warnings.new) }

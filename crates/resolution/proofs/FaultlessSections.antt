@@ -211,9 +211,11 @@ section_is decls clean right limits s h none =
     let end = all_context (entry decls limits s) sc s.body.stmts (none_right (a ++ b) c n1) in
     let ls = locals_are (after_all (entry decls limits s) s.body.stmts).decls (after_all (entry decls limits s) s.body.stmts).locals end.locals in
     let body = body_is (entry decls limits s) sc s.body.stmts (none_right (a ++ b) c n1) (stray_right decls limits s right h s.result refl) (returns_or decls limits s right h (none_left a b n2) s.result refl) in
-    let x = section_put decls limits s ls.0 cs.0 body.body right h (none_left a b n2) body.none body.some s.result refl body.body.result refl in
-    (x.0, ap (λ (o : Option (List core.Local)). section_of decls s o (typed_body (entry decls limits s) s.body.stmts)) ls.1 ∙ ap (section_of decls s (Some ls.0)) body.is
-    ∙ ap (λ (o : Option (List ℕ)). ◌>>=◌ {B = core.Section} o (λ ns. section_with decls s ls.0 ns body.body.stmts s.result body.body.result)) cs.1 ∙ x.1)
+    let x = section_put decls limits s ls.0 cs.0 body.body right h (none_left a b n2) body.none body.some s.result refl body.body.result refl in (
+      x.0,
+      ap (λ (o : Option (List core.Local)). section_of decls s o (typed_body (entry decls limits s) s.body.stmts)) ls.1 ∙ ap (section_of decls s (Some ls.0)) body.is
+          ∙ ap (λ (o : Option (List ℕ)). ◌>>=◌ {B = core.Section} o (λ ns. section_with decls s ls.0 ns body.body.stmts s.result body.body.result)) cs.1 ∙ x.1,
+    )
 
 -- ---- threads
 

@@ -193,7 +193,7 @@ module _ (layout : LayoutOf) where
   from_root (WholeClass s) finals class shape locals listed =
       count_le (among (locks_of shape class s)) (λ (l : Lock). l.class == class)
       (λ l h. let r = from_map (object_lock class) (members_of shape s) l (among_contains (locks_of shape class s) l h) in
-          eq-eqb l.class class (ap (λ (x : Lock). x.class) (sym r.2)))
+      eq-eqb l.class class (ap (λ (x : Lock). x.class) (sym r.2)))
       layout.cell_locks
   from_root (AtLocal k) finals class shape locals listed = from_object class (object_at shape locals k finals) listed
 
