@@ -50,8 +50,8 @@ in an annotation, an `init`, a type, a call or the list of a section's head.
   a local, or is of another type than the final reference.
 - At the helper's name in a `let`, where it has no result or one of another
   type.
-- In the list of a section's head: at the first name, where it is no struct;
-  at the second, where the member is no lock.
+- In the list of a section's head: at the first name, where it is not a struct;
+  at the second, where the member is not a lock.
 - At a name of the wrong kind: an array or pool without index, or a section,
   helper, struct or thread, as a value; an index after anything else; a field
   after a top-level name, an int or a lock (at the first name); a declared
