@@ -8,7 +8,7 @@ TOKEN = re.compile(r"[A-Za-z_]\w*|\d+|[<>=!]=|&&|\|\||[^\s\w]")
 
 class Declaration:
     def __init__(self, start, words, struct=None, lock=None):
-        """Where its name starts, its words; the struct that it refers to or is of; the class of its lock."""
+        """Where its name starts, its words; the struct that it is, refers to or is of; the class of its lock."""
         self.start, self.struct, self.lock = start, struct, lock
         line = " ".join(str(int(word)) if word.isdigit() else word for word in words)
         line = re.sub(r"([(\[.]) ", r"\1", re.sub(r" ([()\[\],.])", r"\1", line))
@@ -75,7 +75,8 @@ class Program:
         own, words = {}, [word for word, _ in piece]
         self.locals.append(own)
         if words[0] in ("lock", "thread", "struct"):
-            self.add(self.top, before(piece, "{", ";"), 1, None, words[1] if words[0] == "lock" else None)
+            struct, lock = (words[1] if words[0] == kind else None for kind in ("struct", "lock"))
+            self.add(self.top, before(piece, "{", ";"), 1, struct, lock)
         elif words[0] == "pool":
             self.add(self.top, before(piece, ";"), 2, words[1])
         elif words[0] == "global":

@@ -15,13 +15,20 @@ abbrev pub is_lock_word : Option Keyword → Bool
 is_lock_word (Some word.Lock) = true
 is_lock_word _ = false
 
+-- the keyword is `atomic`
+abbrev pub is_atomic : Option Keyword → Bool
+is_atomic (Some word.Atomic) = true
+is_atomic _ = false
+
 -- the token, if it is the name of a declared lock
 abbrev pub if_lock : List Token → ℕ → Option ℕ
 if_lock tokens at = if is_lock_word (word_at tokens (at - 1)) then Some at else None
 
--- the token that declares the last name of the declaration's annotation: it stands before the last `)`
+-- the token that declares the last name of the declaration's annotation: it stands before the last `)`; a section has no
+-- annotation, but a list of classes
 abbrev pub annotated : List Token → ℕ → Option ℕ
-annotated tokens at = slice_index_or (declarations tokens) (end_token tokens at - 2) None
+annotated tokens at =
+    if is_atomic (word_at tokens (at - 1)) then None else slice_index_or (declarations tokens) (end_token tokens at - 2) None
 
 -- the token that declares the lock: this one, or the one that the annotation names
 abbrev pub lock_of : List Token → ℕ → Option ℕ

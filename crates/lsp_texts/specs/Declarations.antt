@@ -122,18 +122,23 @@ type_at tokens at =
     option_or (text_at tokens (at - 1))
     (if is_colon (sign_at tokens (at + 1)) && is_ref (word_at tokens (at + 2)) then text_at tokens (at + 3) else None)
 
+-- the struct that a token declares, or else the one in the type of what it declares
+unfoldable pub struct_at : List Token → ℕ → Option (List ℕ)
+struct_at tokens at = if is_struct (word_at tokens (at - 1)) then text_at tokens at else type_at tokens at
+
 -- the declaration of this name in a declaration of the top level, if that is of a struct
 abbrev pub member_of : List Token → List ℕ → ℕ → Option ℕ
 member_of tokens text owner = if is_struct (word_at tokens (owner - 1)) then inner tokens owner text else None
 
--- the declaration in the struct that is the type of what this token declares
+-- the declaration in the struct that this token declares, or that is in the type of what it declares
 unfoldable pub member : List Token → List ℕ → Option ℕ → Option ℕ
 member tokens text holder =
-    option_and_then (member_of tokens text) (option_and_then (top tokens) (option_and_then (type_at tokens) holder))
+    option_and_then (member_of tokens text) (option_and_then (top tokens) (option_and_then (struct_at tokens) holder))
 
 -- ---- the meaning of a name
 
--- the token before the dot that precedes this one; for an element `x[i]` it is the name
+-- the token before the dot that precedes this one, as `a` of `a.x` and `S` of `lock(S.l)`; for an element `x[i]` it is
+-- the name
 unfoldable pub holder_at : List Token → ℕ → ℕ
 holder_at tokens at = if is_close_bracket (sign_at tokens (at - 2)) && is_open_bracket (sign_at tokens (at - 4)) then at - 5 else at - 2
 

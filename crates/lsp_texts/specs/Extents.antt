@@ -35,11 +35,12 @@ ends_parameter (Some sign.Comma) = true
 ends_parameter (Some sign.CloseParen) = true
 ends_parameter _ = false
 
--- `int`, `ref` or `protected_by`
+-- `int`, `ref`, `protected_by`, or the `lock` of a section's list of classes
 abbrev pub is_type_word : Keyword → Bool
 is_type_word word.Int = true
 is_type_word word.Ref = true
 is_type_word word.ProtectedBy = true
+is_type_word word.Lock = true
 is_type_word _ = false
 
 -- parentheses, brackets, `,`, `:` or `.`
@@ -53,7 +54,7 @@ is_type_sign sign.Colon = true
 is_type_sign sign.Dot = true
 is_type_sign _ = false
 
--- the token may stand after the name in parameters, types, lengths and annotations: not a value, a body or an end
+-- the token may stand after the name in parameters, types, lengths, annotations and lists of classes: not a value, a body or an end
 abbrev pub continues : Token → Bool
 continues (token.Name start text) = true
 continues (token.Int span value) = true

@@ -18,6 +18,13 @@ fn is_lock(tokens: &[Token], at: usize) -> bool
     matches!(word_at(tokens, at.saturating_sub(1)), Some(Keyword::Lock))
 }
 
+/// Whether the token `at` is the name of a declared section.
+fn is_section(tokens: &[Token], at: usize) -> bool
+    ensures { result ≡ classes.is_atomic (names.word_at tokens.now (at - 1)) }
+{
+    matches!(word_at(tokens, at.saturating_sub(1)), Some(Keyword::Atomic))
+}
+
 /// The token `at`, if it is the name of a declared lock.
 fn if_lock(tokens: &[Token], at: usize) -> Option<usize>
     ensures { result ≡ classes.if_lock tokens.now at }
@@ -93,6 +100,9 @@ impl Meant<'_> {
         requires { at < length self.now.tokens.now }
         ensures { result ≡ classes.annotated self.now.tokens.now at }
     {
+        if is_section(self.tokens, at) {
+            return None;
+        }
         match self.found.get(end_token(self.tokens, at).saturating_sub(2)) {
             Some(found) => *found,
             None => None,

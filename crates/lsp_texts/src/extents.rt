@@ -52,7 +52,10 @@ fn ends_parameter(tokens: &[Token], at: usize) -> bool
 fn is_type_word(word: Keyword) -> bool
     ensures { result ≡ extents.is_type_word word }
 {
-    matches!(word, Keyword::Int | Keyword::Ref | Keyword::ProtectedBy)
+    matches!(
+        word,
+        Keyword::Int | Keyword::Ref | Keyword::ProtectedBy | Keyword::Lock
+    )
 }
 
 /// Whether the sign may stand after a declared name.

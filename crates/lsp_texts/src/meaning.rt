@@ -30,6 +30,17 @@ fn type_at(tokens: &[Token], at: usize) -> Option<&str>
     }
 }
 
+/// The struct that the token `at` declares, or else the one in the type of what it declares.
+#[tactic(auto, unfolding(crate::specs::Declarations::struct_at))]
+fn struct_at(tokens: &[Token], at: usize) -> Option<&str>
+    ensures { option_map (λ text. text.now) result ≡ declarations.struct_at tokens.entry.now at }
+{
+    match word_at(tokens, at.saturating_sub(1)) {
+        Some(Keyword::Struct) => text_at(tokens, at),
+        _ => type_at(tokens, at),
+    }
+}
+
 /// The token before the dot that precedes the token `at`; for an element it is the array's name.
 #[tactic(auto, unfolding(crate::specs::Declarations::holder_at))]
 fn holder_at(tokens: &[Token], at: usize) -> usize
@@ -91,7 +102,8 @@ impl<'a> Text<'a> {
         }
     }
 
-    /// The token that declares the name `text` in the struct that is the type of what `holder` declares.
+    /// The token that declares the name `text` in the struct that `holder` declares, or that is in the type of what it
+    /// declares.
     #[tactic(auto, unfolding(crate::specs::Declarations::member))]
     fn member(&self, holder: Option<usize>, text: &'a str) -> Option<usize>
         ensures { result ≡ declarations.member self.now.tokens.now text.now holder }
@@ -99,7 +111,7 @@ impl<'a> Text<'a> {
         let Some(holder) = holder else {
             return None;
         };
-        let Some(name) = type_at(self.tokens, holder) else {
+        let Some(name) = struct_at(self.tokens, holder) else {
             return None;
         };
         match self.top(name) {

@@ -4,7 +4,7 @@ use Rattle.std.specs.Prelude.{◌-◌, if◌then◌else◌, option_and_then, sli
 use Rattle.std.specs.Option.{option_or}
 use Rattle.source.specs.declared.token.Token.{Token}
 use Rattle.lsp_texts.specs.Names.{text_at, sign_at, word_at}
-use Rattle.lsp_texts.specs.Declarations.{bound_at, declaration_by, declaration_of, declarations, declarations_in, first, holder_at, inner, is_dot, is_inner_of, is_outer, is_struct, is_top_of, is_where, member, member_of, owner_at, plain, top, type_at}
+use Rattle.lsp_texts.specs.Declarations.{bound_at, declaration_by, declaration_of, declarations, declarations_in, first, holder_at, inner, is_dot, is_inner_of, is_outer, is_struct, is_top_of, is_where, member, member_of, owner_at, plain, struct_at, top}
 
 abbrev pub IsWithin : ℕ → Option ℕ → Type 0
 IsWithin n None = Unit {0}
@@ -48,7 +48,7 @@ module _ (tokens : List Token) where
   member_within : (text : List ℕ) (holder : Option ℕ) → IsWithin (length tokens) (member tokens text holder)
   unfolding member
   member_within text holder =
-      behind (length tokens) (member_of tokens text) (option_and_then (top tokens) (option_and_then (type_at tokens) holder))
+      behind (length tokens) (member_of tokens text) (option_and_then (top tokens) (option_and_then (struct_at tokens) holder))
       (member_of_within text)
 
   plain_within : (at : ℕ) (text : List ℕ) → IsWithin (length tokens) (plain tokens at text)
