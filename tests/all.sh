@@ -46,6 +46,7 @@ fi
 for script in heads believed promises editors style; do
     try "tests/$script.py"
 done
+try tests/layout.sh
 try script/docs.py --check
 try tests/edits.py --applies
 if [ $# = 0 ]; then
