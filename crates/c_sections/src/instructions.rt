@@ -170,7 +170,8 @@ impl MarkedLines<'_> {
         requires stands { IsAt self.now.lines.now place groups.old }
         ensures stands { OnOk result (IsAt self.now.lines.now (place + 1) groups.new) }
         ensures text { OnOk result (AddsText
-            (marked_of self.now.lines.now (mark_in self.now.marks (begins_of self.now.lines.now)) place) out.old out.new) }
+            (marked_of self.now.lines.now (mark_in self.now.marks (begins_of self.now.lines.now)) place) out.old
+            out.new) }
     {
         let lines = self.lines;
         self.marks.push(out, lines.listed.code, place)?;

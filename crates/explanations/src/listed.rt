@@ -77,7 +77,8 @@ impl Lister<'_> {
     ) -> Result<(), NoMemory>
         requires { AreSectionPaths self.now.program.now self.now.section.now self.now.found.now }
         ensures { OnOk result (Adds
-            (class_warning self.now.program.now self.now.section.now place (class_name_of name.now)) warnings.old warnings.new) }
+            (class_warning self.now.program.now self.now.section.now place (class_name_of name.now)) warnings.old
+            warnings.new) }
     {
         let Some(class) = self.section.listed.get(place) else {
             return Ok(());
@@ -93,7 +94,8 @@ impl Lister<'_> {
     fn push_classes(&self, names: &[ClassName], warnings: &mut Vec<Warning>) -> Result<(), NoMemory>
         requires { AreSectionPaths self.now.program.now self.now.section.now self.now.found.now }
         ensures { OnOk result (Adds
-            (class_warnings self.now.program.now self.now.section.now 0 (map class_name_of names.now)) warnings.old warnings.new) }
+            (class_warnings self.now.program.now self.now.section.now 0 (map class_name_of names.now)) warnings.old
+            warnings.new) }
     {
         for (place, name) in names.iter().enumerate() {
             self.push_class(place, name, warnings)?;

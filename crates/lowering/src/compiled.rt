@@ -94,7 +94,8 @@ impl Model for Program {
 
     ghost view = { λ p. plan_of p.accepted (written_in p.accepted p.written) p.ranks.items p.placed p.layout };
 
-    ghost invariant = { λ p. let plan = plan_of p.accepted (written_in p.accepted p.written) p.ranks.items p.placed p.layout in
+    ghost invariant = { λ p. let plan = plan_of p.accepted (written_in p.accepted p.written) p.ranks.items p.placed
+        p.layout in
         IsProgram plan p.paths p.code p.rooms.items };
 }
 

@@ -42,7 +42,8 @@ fn places_of(
 /// The instructions of each section; with the program's text, each with the position of its statement.
 fn list(alloc: Global, program: &Program, text: Option<&[u8]>) -> Result<Rope, NoMemory>
     ensures { IfOk result (λ listed. rope_text listed
-        ≡ sections_text (text_of text.entry) program.now.program program.now.lists 0 program.now.program.sections.items) }
+        ≡ sections_text (text_of text.entry) program.now.program program.now.lists 0
+        program.now.program.sections.items) }
 {
     let typed = program.expanded();
     let paths = program.paths();

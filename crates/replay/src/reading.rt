@@ -35,7 +35,8 @@ impl<'a> Replay<'a> {
         ensures sound { OnOk result (IsSound self.now.callers self.now.program.now at.new) }
         ensures position { at.new.position ≡ at.old.position }
         ensures leaves { IfOk result
-            (Leaves self.now.turns self.now.callers self.now.format self.now.program.now line.now at.old at.new (string_bytes text.new)) }
+            (Leaves self.now.turns self.now.callers self.now.format self.now.program.now line.now at.old at.new
+            (string_bytes text.new)) }
     {
         text.clear();
         push_print(text, at.prints[at.told])?;
@@ -57,7 +58,8 @@ impl<'a> Replay<'a> {
         ensures sound { IsSound self.now.callers self.now.program.now at.new }
         ensures position { at.new.position ≡ at.old.position }
         ensures leaves { (written : List ℕ) →
-            Leaves self.now.turns self.now.callers self.now.format self.now.program.now line.now at.old at.new written result }
+            Leaves self.now.turns self.now.callers self.now.format self.now.program.now line.now at.old at.new written
+            result }
     {
         if !is(line, "end") {
             return Finding::Other;
@@ -81,7 +83,8 @@ impl<'a> Replay<'a> {
         ensures sound { OnOk result (IsSound self.now.callers self.now.program.now at.new) }
         ensures position { at.new.position ≡ at.old.position }
         ensures leaves { IfOk result
-            (Leaves self.now.turns self.now.callers self.now.format self.now.program.now line.now at.old at.new (string_bytes text.new)) }
+            (Leaves self.now.turns self.now.callers self.now.format self.now.program.now line.now at.old at.new
+            (string_bytes text.new)) }
     {
         if number >= self.program.cells.len() {
             return Ok(self.read_last(at, number, line));
@@ -146,7 +149,8 @@ impl<'a> Replay<'a> {
         ensures sound { IsSound self.now.callers self.now.program.now at.new }
         ensures position { at.new.position ≡ at.old.position }
         ensures leaves { (written : List ℕ) →
-            Leaves self.now.turns self.now.callers self.now.format self.now.program.now (codes "cells") at.old at.new written result }
+            Leaves self.now.turns self.now.callers self.now.format self.now.program.now (codes "cells") at.old at.new
+            written result }
     {
         if !self.all_called(at) {
             return Finding::Other;
@@ -175,7 +179,8 @@ impl<'a> Replay<'a> {
         ensures sound { OnOk result (IsSound self.now.callers self.now.program.now at.new) }
         ensures position { at.new.position ≤ at.old.position + 1 }
         ensures leaves { IfOk result
-            (Leaves self.now.turns self.now.callers self.now.format self.now.program.now line.now at.old at.new (string_bytes text.new)) }
+            (Leaves self.now.turns self.now.callers self.now.format self.now.program.now line.now at.old at.new
+            (string_bytes text.new)) }
     {
         let run = self.prepared.run_whole(
             self.alloc,
@@ -229,7 +234,8 @@ impl<'a> Replay<'a> {
         ensures sound { OnOk result (IsSound self.now.callers self.now.program.now at.new) }
         ensures position { at.new.position ≤ at.old.position + 1 }
         ensures leaves { IfOk result
-            (Leaves self.now.turns self.now.callers self.now.format self.now.program.now line.now at.old at.new (string_bytes text.new)) }
+            (Leaves self.now.turns self.now.callers self.now.format self.now.program.now line.now at.old at.new
+            (string_bytes text.new)) }
     {
         match self.call_of(at, text, line, invoked)? {
             Some(call) => self.read_end(at, call, text, line),
@@ -254,7 +260,8 @@ impl<'a> Replay<'a> {
         ensures sound { OnOk result (IsSound self.now.callers self.now.program.now at.new) }
         ensures position { at.new.position ≤ at.old.position + 1 }
         ensures leaves { IfOk result
-            (Leaves self.now.turns self.now.callers self.now.format self.now.program.now line.now at.old at.new (string_bytes text.new)) }
+            (Leaves self.now.turns self.now.callers self.now.format self.now.program.now line.now at.old at.new
+            (string_bytes text.new)) }
     {
         if is(line, "cells") {
             return Ok(self.read_cells(at));
@@ -278,7 +285,8 @@ impl<'a> Replay<'a> {
         ensures sound { OnOk result (IsSound self.now.callers self.now.program.now at.new) }
         ensures position { at.new.position ≤ at.old.position + 1 }
         ensures leaves { IfOk result
-            (Leaves self.now.turns self.now.callers self.now.format self.now.program.now line.now at.old at.new (string_bytes text.new)) }
+            (Leaves self.now.turns self.now.callers self.now.format self.now.program.now line.now at.old at.new
+            (string_bytes text.new)) }
     {
         match at.stage {
             Stage::Calls if at.told < at.prints.len() => self.read_print(at, text, line),

@@ -70,10 +70,12 @@ impl Replay<'_> {
     fn judgement(&self, recorded: &Recorded<'_>) -> Result<Judgement, NoMemory>
         requires { IsReady self.now }
         ensures holds { let format = self.now.format in let program = self.now.program.now in
-            IfOk result (λ judgement. Holds self.now.turns self.now.callers format program (recorded_lines recorded.now) judgement.verdict) }
+            IfOk result (λ judgement. Holds self.now.turns self.now.callers format program
+            (recorded_lines recorded.now) judgement.verdict) }
         ensures why { let format = self.now.format in let program = self.now.program.now in
             IfOk result (λ judgement.
-            Explains self.now.turns self.now.callers format program (recorded_lines recorded.now) judgement.verdict judgement.wanted) }
+            Explains self.now.turns self.now.callers format program (recorded_lines recorded.now) judgement.verdict
+            judgement.wanted) }
     {
         let mut at = start(self.alloc, self.program)?;
         let mut text = String::new(self.alloc);
@@ -128,9 +130,11 @@ pub fn judge(
     requires checked { IsChecked prepared.program.now }
     requires expansion { IsExpansion prepared.program.now prepared.written.now }
     ensures holds { let format = recorded.now.format in let program = prepared.entry.program.now in
-        IfOk result (λ judgement. Holds terms.turns terms.callers format program (recorded_lines recorded.now) judgement.verdict) }
+        IfOk result (λ judgement. Holds terms.turns terms.callers format program (recorded_lines recorded.now)
+        judgement.verdict) }
     ensures why { let format = recorded.now.format in let program = prepared.entry.program.now in
-        IfOk result (λ judgement. Explains terms.turns terms.callers format program (recorded_lines recorded.now) judgement.verdict judgement.wanted) }
+        IfOk result (λ judgement. Explains terms.turns terms.callers format program (recorded_lines recorded.now)
+        judgement.verdict judgement.wanted) }
 {
     let program = prepared.program();
     let replay = Replay {

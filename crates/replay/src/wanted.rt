@@ -65,7 +65,8 @@ impl<'a> Replay<'a> {
         requires thread { thread < length self.now.program.now.threads.items }
         ensures { OnOk result ((reader : Reader) → IsAt self.now.program.now at.now reader →
             map (λ head. string_bytes head) heads.new.items
-            ≡ map (λ head. string_bytes head) heads.old.items ++ next_head self.now.format self.now.program.now reader.order thread) }
+            ≡ map (λ head. string_bytes head) heads.old.items ++ next_head self.now.format self.now.program.now
+            reader.order thread) }
     {
         let step = at.seat(thread).called;
         let Some(call) = self.call_in(thread, step) else {

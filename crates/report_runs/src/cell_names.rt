@@ -110,7 +110,8 @@ fn names_together<'t>(
     more: Option<&[&'t str]>,
 ) -> Result<Option<Vec<&'t str>>, AllocError>
     ensures { IfOk result (λ names. option_map (λ names. map (λ name. name.now) names.items) names
-        ≡ names_together (option_map (λ text. text.now) text.entry) (option_map (λ more. map (λ name. name.now) more.now) more.entry)) }
+        ≡ names_together (option_map (λ text. text.now) text.entry)
+        (option_map (λ more. map (λ name. name.now) more.now) more.entry)) }
 {
     match (text, more) {
         (None, None) => Ok(None),
@@ -138,7 +139,8 @@ pub fn asked_cells<'t>(
     more: Option<&[&'t str]>,
 ) -> Result<Result<Cells, &'t str>, NoMemory>
     ensures { IfOk result (λ asked. let names =
-        names_together (option_map (λ text. text.now) text.entry) (option_map (λ more. map (λ name. name.now) more.now) more.entry) in
+        names_together (option_map (λ text. text.now) text.entry)
+        (option_map (λ more. map (λ name. name.now) more.now) more.entry) in
         MatchResult asked (AreAsked program.now names) (λ name. IsUnknownIn program.now names name.now)) }
 {
     let Some(names) = names_together(alloc, text, more)? else {

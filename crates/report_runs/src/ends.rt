@@ -314,7 +314,8 @@ impl Ends<'_> {
     /// one error is a refused growth.
     pub fn push_whole_cells(&self, out: &mut String, end: &FinalState) -> Result<(), AllocError>
         ensures { OnOk result (AddsText
-            (whole_cells_text self.now.program.now self.now.asked.now.cells (told_of end.now).left.cells) out.old out.new) }
+            (whole_cells_text self.now.program.now self.now.asked.now.cells (told_of end.now).left.cells) out.old
+            out.new) }
     {
         out.push_str("cells\n")?;
         self.push_cells(out, &[], &end.cells)?;
@@ -382,7 +383,8 @@ impl Ends<'_> {
     /// the calls. The only error is a refused growth, which includes a number of orders past `u64`.
     pub fn text(&self, alloc: Global) -> Result<String, NoMemory>
         ensures { IfOk result (λ text. string_bytes text
-            ≡ outcomes_text self.now.program.now self.now.asked.now self.now.full self.now.scope (map told_of self.now.ends.now)) }
+            ≡ outcomes_text self.now.program.now self.now.asked.now self.now.full self.now.scope
+            (map told_of self.now.ends.now)) }
     {
         let count = count(self.ends)?;
         let calls = calls_of(alloc, self.program)?;

@@ -37,7 +37,8 @@ impl ExpectedEnds<'_> {
     /// The first end that is not as expected, with the order that is reported with it and the cells there.
     pub fn breach(&self) -> Option<&FinalState>
         ensures { option_map (λ end. told_of end.now) result
-            ≡ breach_in self.now.ends.now.asked.now.cells self.now.comparison.now (map told_of self.now.ends.now.ends.now) }
+            ≡ breach_in self.now.ends.now.asked.now.cells self.now.comparison.now
+            (map told_of self.now.ends.now.ends.now) }
     {
         let cells = &self.ends.asked.cells;
         for end in self.ends.ends {
@@ -81,8 +82,10 @@ impl ExpectedEnds<'_> {
     /// `NoMemory`: a growth was refused.
     pub fn text(&self, alloc: Global) -> Result<String, NoMemory>
         ensures { IfOk result (λ text. string_bytes text
-            ≡ expected_text self.now.ends.now.program.now self.now.ends.now.asked.now.cells self.now.text.now self.now.ends.now.scope
-            (breach_in self.now.ends.now.asked.now.cells self.now.comparison.now (map told_of self.now.ends.now.ends.now))) }
+            ≡ expected_text self.now.ends.now.program.now self.now.ends.now.asked.now.cells self.now.text.now
+            self.now.ends.now.scope
+            (breach_in self.now.ends.now.asked.now.cells self.now.comparison.now
+            (map told_of self.now.ends.now.ends.now))) }
     {
         let mut out = String::new(alloc);
         match self.breach() {

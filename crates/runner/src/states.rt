@@ -106,7 +106,8 @@ impl<'p> Model for Ended<'p> {
     ghost view = { λ e. ended_in e.program.now e.ticket e.body.value };
 
     ghost invariant = { λ e.
-        IsKeptEnded (ended_in e.program.now e.ticket e.body.value) e.ticket e.body.value.machine e.body.value.grants.items
+        IsKeptEnded (ended_in e.program.now e.ticket e.body.value) e.ticket e.body.value.machine
+        e.body.value.grants.items
         (entry_in e.ticket e.body.value) };
 }
 

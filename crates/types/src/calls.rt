@@ -22,7 +22,8 @@ impl Reader<'_> {
     // Adds the helpers.
     fn add_helpers(&self, graph: &mut CallGraph) -> Result<(), AllocError>
         requires { (graph_of graph.old).helpers ≡ [] }
-        ensures { OnOk result (graph_of graph.new ≡ record (graph_of graph.old) { helpers = all_helpers (decls_of self.now.symbols.now) }) }
+        ensures { OnOk result (graph_of graph.new ≡ record (graph_of graph.old)
+            { helpers = all_helpers (decls_of self.now.symbols.now) }) }
     {
         for d in self.symbols.items() {
             if let Decl::Helper(s) = d {
@@ -36,7 +37,8 @@ impl Reader<'_> {
     // Adds the sections.
     fn add_sections(&self, graph: &mut CallGraph) -> Result<(), AllocError>
         requires { (graph_of graph.old).sections ≡ [] }
-        ensures { OnOk result (graph_of graph.new ≡ record (graph_of graph.old) { sections = all_sections (decls_of self.now.symbols.now) }) }
+        ensures { OnOk result (graph_of graph.new ≡ record (graph_of graph.old)
+            { sections = all_sections (decls_of self.now.symbols.now) }) }
     {
         for d in self.symbols.items() {
             if let Decl::Atomic(s) = d {
@@ -71,7 +73,8 @@ pub fn report_calls(
     symbols: &SymbolTable,
     firsts: &mut Firsts,
 ) -> Result<(), AllocError>
-    ensures { OnOk result (firsts.new ≡ found_in firsts.old (option_to_list (option_map plain (mistakes.least_of None (graph_faults (tree_graph (decls_of symbols.now))))))) }
+    ensures { OnOk result (firsts.new ≡ found_in firsts.old (option_to_list
+        (option_map plain (mistakes.least_of None (graph_faults (tree_graph (decls_of symbols.now))))))) }
 {
     let mut found = None;
     check_calls(alloc, symbols, &mut found)?;
