@@ -253,8 +253,9 @@ pub fn check_section(
     let mut checker = Checker::new(alloc, symbols, result, SECTION_LIMITS);
     let section = check_in(&mut checker, s, firsts);
     drop(checker);
-    report_listed(symbols, &s.listed, firsts);
-    section
+    let section = section?;
+    report_listed(symbols, &s.listed, firsts)?;
+    Ok(section)
 }
 
 /// The resolved helper that a tree stands for, like [`check_section`]. It has no limits of its own.
@@ -274,6 +275,7 @@ pub fn check_helper(
     let mut checker = Checker::new(alloc, symbols, given, HELPER_LIMITS);
     let helper = check_in(&mut checker, s, firsts);
     drop(checker);
-    report_listed(symbols, &s.listed, firsts);
-    helper
+    let helper = helper?;
+    report_listed(symbols, &s.listed, firsts)?;
+    Ok(helper)
 }

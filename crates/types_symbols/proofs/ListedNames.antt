@@ -1,14 +1,18 @@
 -- The lock class of a struct and a lock's name, and names of classes one after another.
-use Rattle.std.proofs.Common.{◌≡◌, ℕ, suc, List, [], ◌∷◌, Option, Some, None, Bool, true, false, refl}
-use Rattle.std.proofs.Common.{if◌then◌else◌}
+use Rattle.std.proofs.Common.{◌≡◌, ◌∙◌, ℕ, List, [], ◌∷◌, ◌++◌, length, Option, Some, None, Bool, true, false, refl, sym, ap}
+use Rattle.std.proofs.Common.{if◌then◌else◌, arith}
 use Rattle.std.specs.Prelude.{is_some}
+use Rattle.std.specs.Option.{option_or}
 use Rattle.source.specs.declared.fault.Code.TheVariants.{DeclaredTwice}
-use Rattle.syntax.specs.Trees.{Ident, Struct, Decl, lock, struct, global, array, pool, init, atomic, helper, thread}
+use Rattle.syntax.specs.Trees.{ClassName, Ident, Struct, Decl, lock, struct, global, array, pool, init, atomic, helper, thread}
 use Rattle.resolution.specs.declared.finding.Finding.{Finding}
-use Rattle.resolution.specs.Scopes.{place_from, the_member}
+use Rattle.resolution.specs.Scopes.{place_of, same_class, the_member}
 use Rattle.resolution.specs.Working.FaultLists.{one_if, again, no_lock, no_lock_in}
 use Rattle.resolution.specs.Working.TypedSections.{class_at, class_in}
+use Rattle.types_symbols.specs.Working.Listed.{IsListOf, IsListedWith}
 use Rattle.types_symbols.specs.Working.Views.{struct_in}
+use Rattle.types_symbols.specs.declared.listed.Listed.{Listed}
+use Rattle.types_symbols.proofs.Tables.{place-more}
 
 module _ (decls : List Decl) (y : Ident) where
   abbrev pub class_of_struct : Option (ℕ × Struct) → Option ℕ
@@ -43,16 +47,21 @@ module _ (decls : List Decl) (y : Ident) where
   faults_by_struct (Some (i, helper s)) = refl
   faults_by_struct (Some (i, thread t)) = refl
 
--- where the count begins does not matter
-pub some_from : {A : Type 0} (p : A → Bool) (n k : ℕ) (xs : List A) →
-    is_some (place_from p n xs) ≡ is_some (place_from p k xs)
-some_from p n k [] = refl
-some_from p n k (x ∷ xs) = by_test (p x) (some_from p (suc n) (suc k) xs)
+-- the names with one more class
+pub listed_more : (cs : List ClassName) (c : ClassName) (old new : Listed) → IsListOf cs old → IsListedWith c old new →
+    IsListOf (cs ++ c ∷ []) new
+listed_more cs c old new h adds = λ d.
+    adds d
+    ∙ ap (λ (b : Bool). if same_class c d then true else b) (h d)
+    ∙ by_test (same_class c d) (place_of same_class cs d)
+    ∙ sym (ap is_some (place-more (λ e. same_class e d) cs c 0 (length cs) (omega arith)))
   where
-    by_test : (b : Bool) → is_some (place_from p (suc n) xs) ≡ is_some (place_from p (suc k) xs) →
-        is_some (if b then Some n else place_from p (suc n) xs) ≡ is_some (if b then Some k else place_from p (suc k) xs)
-    by_test true e = refl
-    by_test false e = e
+    by_test : (b : Bool) (o : Option ℕ) →
+        (if b then true else is_some o) ≡ is_some (option_or o (if b then Some (length cs) else None))
+    by_test true None = refl
+    by_test true (Some i) = refl
+    by_test false None = refl
+    by_test false (Some i) = refl
 
 pub again_by : (b : Bool) (o : Option ℕ) (start : ℕ) → b ≡ is_some o → one_if b DeclaredTwice start ≡ again start o
 again_by true None start e = absurd cc

@@ -6,5 +6,6 @@ pub mod Counted
 pub mod Faults
 pub mod Found
 pub mod Given
+pub mod Listed
 pub mod Scoped
 pub mod Views

@@ -1,19 +1,24 @@
 //! The lock classes that sections take whole, by their names.
 
-ghost use Rattle.std.specs.Prelude.{◌≡◌, [], map, is_some};
+ghost use Rattle.std.specs.Prelude.{◌≡◌, [], IfOk, OnOk, map};
 ghost use Rattle.syntax.specs.Views.{ident, class_name_of};
-ghost use Rattle.resolution.specs.Scopes.{the_member, place_of, same_class};
+ghost use Rattle.resolution.specs.Scopes.{the_member};
 ghost use Rattle.resolution.specs.Working.TypedSections.{class_at, class_named};
 ghost use Rattle.resolution.specs.Working.Findings.{found_in};
-ghost use Rattle.resolution.specs.Working.FaultLists.{no_lock, no_lock_in, listed_faults};
+ghost use Rattle.resolution.specs.Working.FaultLists.{no_lock, no_lock_in, class_faults, listed_faults};
+ghost use Rattle.types_symbols.specs.Working.Listed.{is_listed, IsListOf, IsListedWith};
 ghost use Rattle.types_symbols.specs.Working.Views.{decls_of, decl_named, members_seen};
 
 use crate::members::Structure;
+use crate::names::TableMaker;
 use crate::scope::{report_target, report_unfit_member};
 use crate::table::SymbolTable;
+use indexmap::IndexSet;
 use resolution::finding::{Finding, Firsts, report, report_if};
 use resolution::why::Why;
 use source::fault::Code;
+use source::keyed::KeyedState;
+use std::alloc::AllocError;
 use syntax::tree::{ClassName, Member, Name};
 
 /// The class of the lock of this name, in the struct at `place`.
@@ -72,36 +77,59 @@ fn report_lock_name(symbols: &SymbolTable, class: &ClassName, firsts: &mut First
     report_no_lock(symbols, structure, &class.lock, firsts);
 }
 
-/// Whether both names of lock classes are the same.
-fn is_same(a: &ClassName, b: &ClassName) -> bool
-    ensures { result ≡ same_class (class_name_of a.now) (class_name_of b.now) }
-{
-    a.structure.text.as_str() == b.structure.text.as_str()
-        && a.lock.text.as_str() == b.lock.text.as_str()
+/// The names of the lock classes before a place in a list, each as the names of its struct and of its lock.
+#[derive(Drop)]
+struct Listed<'t> {
+    names: IndexSet<(&'t str, &'t str), KeyedState>,
 }
 
-/// Whether a lock class of this name is among `listed`.
-fn is_among(listed: &[ClassName], class: &ClassName) -> bool
-    ensures { result ≡ is_some (place_of same_class (map class_name_of listed.now) (class_name_of class.now)) }
-{
-    for other in listed {
-        if is_same(other, class) {
-            return true;
+impl<'t> Listed<'t> {
+    /// No names.
+    fn new(maker: TableMaker) -> Listed<'t>
+        ensures { IsListOf [] result }
+    {
+        Listed {
+            names: IndexSet::with_hasher(maker.alloc, maker.hashing),
         }
     }
-    false
+
+    /// Adds the name of a class. Returns whether it was there before. The only error is a failed allocation.
+    fn add(&mut self, class: &'t ClassName) -> Result<bool, AllocError>
+        ensures was_there { IfOk result (λ b. b ≡ is_listed self.old (class_name_of class.now)) }
+        ensures names { OnOk result (IsListedWith (class_name_of class.now) self.old self.new) }
+    {
+        let name = (class.structure.text.as_str(), class.lock.text.as_str());
+        let is_new = self.names.insert(name)?;
+        Ok(!is_new)
+    }
+}
+
+/// Notes the faults of a listed lock class by itself: its struct or its lock is unknown or something else.
+fn report_class(symbols: &SymbolTable, class: &ClassName, firsts: &mut Firsts)
+    ensures { firsts.new ≡ found_in firsts.old (class_faults (decls_of symbols.now) (class_name_of class.now)) }
+{
+    report_target(symbols, &class.structure, firsts);
+    report_lock_name(symbols, class, firsts);
 }
 
 /// Notes the faults of the lock classes that a section lists: a struct or a lock is unknown or something else, or a
-/// class is listed twice.
-pub fn report_listed(symbols: &SymbolTable, listed: &[ClassName], firsts: &mut Firsts)
-    ensures { firsts.new ≡ found_in firsts.old
-        (listed_faults (decls_of symbols.now) [] (map class_name_of listed.now)) }
+/// class is listed twice. The only error is a failed allocation; a list of one class allocates nothing.
+pub fn report_listed(
+    symbols: &SymbolTable,
+    listed: &[ClassName],
+    firsts: &mut Firsts,
+) -> Result<(), AllocError>
+    ensures { OnOk result (firsts.new ≡ found_in firsts.old
+        (listed_faults (decls_of symbols.now) [] (map class_name_of listed.now))) }
 {
-    for (place, class) in listed.iter().enumerate() {
-        report_target(symbols, &class.structure, firsts);
-        report_lock_name(symbols, class, firsts);
-        let is_again = is_among(&listed[..place], class);
+    if let [class] = listed {
+        report_class(symbols, class, firsts);
+        return Ok(());
+    }
+    let mut before = Listed::new(symbols.maker());
+    for class in listed {
+        report_class(symbols, class, firsts);
+        let is_again = before.add(class)?;
         report_if(
             is_again,
             Code::DeclaredTwice,
@@ -109,4 +137,5 @@ pub fn report_listed(symbols: &SymbolTable, listed: &[ClassName], firsts: &mut F
             firsts,
         );
     }
+    Ok(())
 }
