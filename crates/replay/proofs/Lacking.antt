@@ -16,10 +16,13 @@ use Rattle.replay.specs.Working.Seats.{seat_in}
 use Rattle.replay.proofs.Candidates.{begins_allowed}
 
 module _ (seats : BTreeMap ℕ ThreadProgress) (order : List ℕ) (are : AreSeats seats order) (told : Told) (position : ℕ) (is : position ≡ length order) where
-  pub begin_lacks : (format : Format) → begins_at format (seat_in seats told.thread).least position told.begun ≡ false →
+  pub begin_lacks : (format : Format) → told.thread < 2 ^ 32 → told.step ≡ (seat_in seats told.thread).called →
+      begins_at format (seat_in seats told.thread).least position told.begun ≡ false →
       LacksNumber format order told (lack.Begin (seat_in seats told.thread).least position)
-  begin_lacks One never = absurd (false≢true (sym never))
-  begin_lacks Two never = (
+  begin_lacks One few step never = absurd (false≢true (sym never))
+  begin_lacks Two few step never = (
+    few,
+    step ∙ are.called told.thread,
     refl,
     λ begun. (
       λ may. let most = may.0 in ((are.least told.thread begun).0 may.1, omega (arith, most, is)),

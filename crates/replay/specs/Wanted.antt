@@ -9,7 +9,7 @@ use Rattle.input_files.specs.declared.format.Format.TheVariants.{Two}
 use Rattle.input_files.specs.Pieces.{before}
 use Rattle.report.specs.History.{call_head}
 use Rattle.replay.specs.declared.callers.Callers.{Callers}
-use Rattle.replay.specs.declared.callers.Callers.TheVariants.{Anyone}
+use Rattle.replay.specs.declared.callers.Callers.TheVariants.{Scripts, Anyone}
 use Rattle.replay.specs.declared.told.Told.{Told}
 use Rattle.replay.specs.declared.verdict.Verdict.{Verdict}
 use Rattle.replay.specs.declared.verdict.Verdict.TheVariants.{Same, Differs, Unsettled}
@@ -56,12 +56,15 @@ KeepsCall callers format program reader lines text = (call : Scheduled) (begun :
 abbrev pub MayBeginWithin : List ℕ → ℕ → ℕ → ℕ → Type 0
 MayBeginWithin order thread least most = (begun : ℕ) → MayBegin Two order thread begun ↔ ((least ≤ begun) × (begun ≤ most))
 
--- the fault of a line's numbers: a thread past 32 bits, another number than the call's, or a begin out of range
+-- the fault of a line's numbers, the first of these: a thread past 32 bits, another number than the call's, or a begin
+-- out of range
 abbrev pub LacksNumber : Format → List ℕ → Told → Lack → Type 0
 LacksNumber format order told lack.Thread = 2 ^ 32 ≤ told.thread
-LacksNumber format order told (lack.Number number) = (calls_by told.thread order ≡ number) × (told.step ≢ number)
+LacksNumber format order told (lack.Number number) =
+    (told.thread < 2 ^ 32) × (calls_by told.thread order ≡ number) × (told.step ≢ number)
 LacksNumber format order told (lack.Begin least most) =
-    (format ≡ Two) × MayBeginWithin order told.thread least most × ((least ≤ told.begun) × (told.begun ≤ most) → ⊥)
+    (told.thread < 2 ^ 32) × (told.step ≡ calls_by told.thread order)
+    × (format ≡ Two) × MayBeginWithin order told.thread least most × ((least ≤ told.begun) × (told.begun ≤ most) → ⊥)
 LacksNumber format order told other = ⊥
 
 -- the numbers are those that a next call of the thread may have
@@ -70,31 +73,39 @@ pub record AreInTurn (format : Format) (order : List ℕ) (told : Told) : Type 0
   pub counted : told.step ≡ calls_by told.thread order
   pub begins : MayBegin format order told.thread told.begun
 
--- what a line lacks that is not one of an open call up to its end: the form of a call's line, or a number in turn, or a
--- known section; or, where all of that is right, arguments that fit
+-- what a line lacks that is not one of an open call up to its end, the first of these: the form of a call's line, a
+-- number in turn, a known section, arguments that fit
 abbrev pub LacksSo : Format → Typed → List ℕ → List ℕ → Lack → Type 0
 LacksSo format program order text (lack.Form of) = (of ≡ format) × (told_in format text ≡ None)
 LacksSo format program order text lack.Section =
-    (told : Told) × (told_in format text ≡ Some told) × (section_named program (before 40 (invoked_text format text)) ≡ None)
+    (told : Told) × (told_in format text ≡ Some told) × AreInTurn format order told
+    × (section_named program (before 40 (invoked_text format text)) ≡ None)
 LacksSo format program order text lack.Arguments =
     (told : Told) × (told_in format text ≡ Some told) × AreInTurn format order told
     × ((section : ℕ) × (section_named program (before 40 (invoked_text format text)) ≡ Some section))
 LacksSo format program order text number = (told : Told) × (told_in format text ≡ Some told) × LacksNumber format order told number
 
--- what the first of the lines lacks, or, where there is none, a line of this form; several reasons are reported in the
--- order of the cases of `Lack`, which this doesn't say
+-- what the first of the lines lacks, or, where there is none, a line of this form
 abbrev pub Lacks : Format → Typed → List ℕ → List (List ℕ) → Lack → Type 0
 Lacks format program order [] missing = missing ≡ lack.Form format
 Lacks format program order (text ∷ more) missing = LacksSo format program order text missing
 
 -- ---- what may come
 
--- what may come as the first of the lines `lines`. A line: if the first of `lines` names a call, the line is of this
--- call. Calls: the first of `lines` names no call, and these are the heads of each thread's next call. Any call: anyone
--- may call, and the first of `lines` lacks `missing`. Nothing: the history is at its end
+-- no other line may come: one is due, or the first of the lines names its call, or the scripts have no further call
+abbrev pub IsDetermined : Callers → Format → Typed → Reader → List (List ℕ) → Type 0
+IsDetermined callers format program reader lines =
+    IsAmongCalls reader → NamesNone callers format program reader lines →
+    (callers ≡ Scripts) × AllCalled callers program reader.order
+
+-- what may come as the first of the lines `lines`. A line: no other may come, and if the first of `lines` names a call,
+-- the line is of this call. Calls: the first of `lines` names no call, and these are the heads of each thread's next
+-- call. Any call: anyone may call, and the first of `lines` lacks `missing`. Nothing: the history is at its end
 abbrev pub IsWanted : ℕ → Callers → Format → Typed → Reader → List (List ℕ) → Wanted → Type 0
 IsWanted turns callers format program reader lines (Line text) =
-    MayCome turns callers format program reader (string_bytes text) × KeepsCall callers format program reader lines (string_bytes text)
+    MayCome turns callers format program reader (string_bytes text)
+    × KeepsCall callers format program reader lines (string_bytes text)
+    × IsDetermined callers format program reader lines
 IsWanted turns callers format program reader lines (Calls heads) =
     IsAmongCalls reader × (AllCalled callers program reader.order → ⊥) × NamesNone callers format program reader lines
     × (map (λ head. string_bytes head) heads.items ≡ next_heads format program reader.order (length program.threads.items))

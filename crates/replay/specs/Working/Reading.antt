@@ -36,7 +36,7 @@ use Rattle.replay.specs.Readers.{Reader, Comes, IsUnsettled, IsNext, IsNextCall,
 use Rattle.replay.specs.Readers.{IsAfter, print_lines, cell_lines}
 use Rattle.replay.specs.Verdicts.{Holds, IsOther, Reaches}
 use Rattle.replay.specs.declared.wanted.Wanted.{Wanted}
-use Rattle.replay.specs.Wanted.{AreInTurn, Explains, IsWanted, KeepsCall, LacksNumber, MayCome, NamesNone}
+use Rattle.replay.specs.Wanted.{AreInTurn, Explains, IsDetermined, IsWanted, KeepsCall, LacksNumber, MayCome, NamesNone}
 use Rattle.replay.specs.Working.Names.{AreNumbersOf}
 use Rattle.replay.specs.Working.Seats.{seat_in}
 
@@ -116,6 +116,7 @@ pub record IsLeft (callers : Callers) (format : Format) (program : Typed) (text 
 abbrev pub EndsSo : ℕ → Callers → Format → Typed → List ℕ → Progress → List ℕ → Type 0
 EndsSo turns callers format program text old written = (reader : Reader) → IsAt program old reader →
     MayCome turns callers format program reader written × KeepsCall callers format program reader (text ∷ []) written
+    × IsDetermined callers format program reader (text ∷ [])
 
 -- the progress after a line that may not come, and the line that was written for it
 abbrev pub Leaves : ℕ → Callers → Format → Typed → List ℕ → Progress → Progress → List ℕ → Finding → Type 0

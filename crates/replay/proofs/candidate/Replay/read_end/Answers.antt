@@ -2,6 +2,7 @@ use Rattle.std.proofs.Common.{◌∙◌, ◌++◌, sym, ap, subst, refl, List, �
 use Rattle.core_lang.specs.declared.typed.Typed.{Typed}
 use Rattle.core_lang.specs.Typing.{IsHeap}
 use Rattle.core_lang.specs.WellFormed.{IsChecked}
+use Rattle.report.specs.Entry.{scheduled_called}
 use Rattle.report.specs.Pieces.{outcome_text}
 use Rattle.replay.proofs.Steps.{head_told, reads_so, reads_otherwise, call_beyond, call_otherwise, call_comes, call_came}
 use Rattle.replay.proofs.candidate.Replay.read_end.Goals as goal
@@ -47,4 +48,13 @@ returns-then-not-is_told-clause-leaves c reader is =
       λ call begun names.
           let same = c.requires.only.only reader call begun names.1 is names.2 in
           (tail, word ∙ ap (λ (b : List ℕ). b ++ tail) (sym same.1)),
+      λ among none. absurd (none (scheduled_called c.args.call) c.args.call.begun (
+        among,
+        rest.0,
+        record {
+          next = c.requires.only.next reader rest.0 is rest.1;
+          begins = c.requires.only.begins reader is;
+          told = rest.1;
+        },
+      )),
     )

@@ -1,4 +1,4 @@
-use Rattle.std.proofs.Common.{◌<◌, List, [], ℕ, arith, length, string_bytes, sym, subst}
+use Rattle.std.proofs.Common.{◌∙◌, ◌<◌, List, [], ℕ, arith, length, string_bytes, sym, subst}
 use Rattle.std.specs.Prelude.{codes}
 use Rattle.report.specs.History.{cell_line}
 use Rattle.replay.specs.Wanted.{MayCome}
@@ -19,6 +19,7 @@ returns-then-number-len c line reader lines first is none =
       subst (λ (text : List ℕ). MayCome turns callers format program reader text) (sym c.in_ok-from_str.ensures.ok)
           (_, due_comes turns callers format program reader (codes "end") [] due),
       λ call begun names. absurd (none call begun names),
+      λ among named. let e = sym among.none_due ∙ due in absurd (cc),
     )
 
 pub returns : goal.returns
@@ -39,4 +40,5 @@ returns c line reader lines first is none =
       subst (λ (text : List ℕ). MayCome turns callers format program reader text) (sym told.2)
           (_, due_comes turns callers format program reader (cell_line program c.index.result.now told.0) _ due),
       λ call begun names. absurd (none call begun names),
+      λ among named. let e = sym among.none_due ∙ due in absurd (cc),
     )

@@ -21,4 +21,5 @@ returns c line reader lines first is none =
             (due ∙ ap (λ (text : List ℕ). text ∷ more) (sym word)),
       ),
       λ call begun names. absurd (none call begun names),
+      λ among named. let e = sym among.none_due ∙ due in absurd (cc),
     )
