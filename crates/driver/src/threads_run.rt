@@ -49,6 +49,10 @@ impl Gate for RunGate {
             delays.pass(thread, step);
         }
     }
+
+    fn sees_each_grant(&self) -> bool {
+        self.delays.is_some()
+    }
 }
 
 /// The values that a closed history leaves in its cells, whose number is `cells`.

@@ -1,5 +1,6 @@
 pub mod Accepted
 pub mod Adding
+pub mod Asked
 pub mod Ends
 pub mod Fronts
 pub mod Guarding

@@ -18,7 +18,7 @@ use Rattle.runner.specs.Working.Answers.{Answered}
 use Rattle.runner.specs.Working.Laws.{SectionsStayPart, AreSameOn, memory_of}
 use Rattle.lock_manager.specs.Working.Sessions.{ReceiptOf}
 use Rattle.workers.specs.Working.Guarding.{IsManagerOf}
-use Rattle.workers.specs.Working.LockEnds.{LockEndsOf, AreEndsOf, AreAsSeen, IsPartAt, asked_open}
+use Rattle.workers.specs.Working.LockEnds.{LockEndsOf, AreEndsOf, AreAsSeen, IsPartAt}
 use Rattle.workers.proofs.Guarding.{manager_kept}
 
 -- a section that begins holds nothing
@@ -61,6 +61,12 @@ module _ (laws : SectionsStayPart) (plan : Plan) (m : Managed) (of : IsManagerOf
   left : m.values ≡ committed plan.layout.opening m.history
   left = kept.values ∙ ap (λ (l : LayoutOf). committed l.opening m.history) of.layout
 
+  -- cells that are part of the heap are part of what the log leaves
+  pub part_at : (log : List Commit) (o : OpenOf) → log ≡ m.history → IsPartOf m.values (memory_of o) → IsPartAt plan log o
+  part_at log o same part =
+      subst (λ (l : List Commit). IsPartOf (committed plan.layout.opening l) (memory_of o)) (sym same)
+      (subst (λ (h : List Value). IsPartOf h (memory_of o)) left part)
+
   module _ (o : OpenOf) (is : o.plan ≡ plan) (is_open : IsOpen o) where
     pub same_layout : m.layout ≡ o.plan.layout
     same_layout = of.layout ∙ ap (λ (p : Plan). p.layout) (sym is)
@@ -75,18 +81,6 @@ module _ (laws : SectionsStayPart) (plan : Plan) (m : Managed) (of : IsManagerOf
         subst (λ (ls : List Lock). AreSameOn o.plan.layout ls old new) its
         (subst (λ (p : Plan). AreSameOn p.layout locks old new) (sym is) as_seen) in
         subst (λ (h : List Value). IsPartOf h (memory_of o)) (sym left) (laws.later o old new is_open here part)
-
-    answered_part : (asked : Asked) (m' : Managed) → Answered m o asked m' → IsPartOf m.values (memory_of o) →
-        IsPartOf m.values (memory_of (asked_open asked))
-    answered_part (Got next) m' answered part = laws.gets m m' o (asked_open (Got next)) kept same_layout is_open answered part
-    answered_part (Waits o' holder) m' answered part = laws.waits m m' o o' holder m.values answered part
-
-    -- the answer to the section's request keeps the cells part of the heap
-    pub asked_part : (asked : Asked) (m' : Managed) (log : List Commit) → log ≡ m.history → Answered m o asked m' →
-        IsPartOf m.values (memory_of o) → IsPartAt plan log (asked_open asked)
-    asked_part asked m' log same answered part =
-        subst (λ (l : List Commit). IsPartOf (committed plan.layout.opening l) (memory_of (asked_open asked))) (sym same)
-        (subst (λ (h : List Value). IsPartOf h (memory_of (asked_open asked))) left (answered_part asked m' answered part))
 
     -- the section wrote only cells of its locks
     pub own_entry : (e : Commit) (ready : ReadyOf) (receipt : ReceiptOf) (m' : Managed) → CanBeReleased m o → Released m o ready receipt m' →

@@ -4,4 +4,10 @@
 pub trait Gate: Sync {
     /// A call of `thread` has come as far as `step`: 0 after its begin, k after its k-th grant.
     fn pass(&self, thread: u32, step: u32);
+
+    /// Whether it observes each grant before the next lock is asked for. Otherwise a call asks for all locks that it
+    /// needs next in one hold of the Mutex, and the gate is called after that, once for each lock that was granted.
+    fn sees_each_grant(&self) -> bool {
+        true
+    }
 }

@@ -11,6 +11,7 @@ ghost use Rattle.workers.specs.Working.LockEnds.{AreAsSeen, IsPartAt, asked_open
 ghost use Rattle.workers.specs.Logs.{IsSound};
 ghost use Rattle.workers.specs.Working.Within.{IsBegun, IsEntered, SeesItsOwn};
 
+use crate::asking::ask_on;
 use crate::front::Front;
 use crate::lock_ends::LockEnds;
 use crate::log::Log;
@@ -114,8 +115,9 @@ impl<'p, 'r, J: Naming> Guarded<'p, 'r, J> {
         front.len() == log.len() || self.ends.are_before(locks, front.len())
     }
 
-    /// Asks for the next lock, for a section whose cells are part of what the log `front` leaves. Afterwards `front` is
-    /// the present log, and they are part of what that leaves.
+    /// Asks for the next lock, and after each grant for the one after it, at most `most` times, for a section whose cells
+    /// are part of what the log `front` leaves. Afterwards `front` is the present log, and they are part of what that
+    /// leaves. Returns the last answer, and how many locks were granted.
     ///
     /// # Errors
     ///
@@ -124,11 +126,12 @@ impl<'p, 'r, J: Naming> Guarded<'p, 'r, J> {
         &mut self,
         asking: Asking<'p>,
         front: &mut Front<'r, J>,
-    ) -> Result<Asked<'p>, Ready<'p>>
+        most: u32,
+    ) -> Result<(Asked<'p>, u32), Ready<'p>>
         requires plan { asking.plan ≡ J.plan }
         requires part { IsPartAt J.plan front.old asking }
-        ensures ok { IfOk result (λ asked. GoesOnSame asking.entry asked) }
-        ensures part { IfOk result (λ asked. IsPartAt J.plan front.new (asked_open asked)) }
+        ensures ok { IfOk result (λ r. GoesOnSame asking.entry r.0) }
+        ensures part { IfOk result (λ r. IsPartAt J.plan front.new (asked_open r.0)) }
         ensures err { IfErr result (λ ready. ready ≡ ready_again asking.entry) }
         ensures history { self.new.history ≡ self.old.history }
     {
@@ -142,7 +145,7 @@ impl<'p, 'r, J: Naming> Guarded<'p, 'r, J> {
             return Err(asking.give_up(&mut self.manager));
         }
         *front = self.log.front();
-        Ok(asking.ask(&mut self.manager))
+        Ok(ask_on(&mut self.manager, asking, most))
     }
 
     /// Enters the entry of a section that began when the history was at least as long as what its seat has seen, and

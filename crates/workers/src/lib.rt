@@ -25,6 +25,7 @@
 #![tactic(auto)]
 
 mod answer_room;
+mod asking;
 pub mod closed;
 mod closing;
 pub mod delaying;

@@ -63,6 +63,16 @@ fn put_back<'p>(place: &mut Ready<'p>, ready: Ready<'p>)
     let _first = mem::replace(place, ready);
 }
 
+// Tells the gate of the next `count` grants of a thread that had `granted` before. Returns how many it has then.
+fn pass_each<G: Gate>(gate: &G, thread: u32, granted: u32, count: u32) -> u32 {
+    let mut granted = granted;
+    for _ in 0..count {
+        granted = granted.wrapping_add(1);
+        gate.pass(thread, granted);
+    }
+    granted
+}
+
 // A call of a section by a thread, and the place where the thread waits.
 #[derive(Clone, Copy)]
 struct Request<'a> {
@@ -264,22 +274,24 @@ impl<'p, 'r, J: Naming> Shared<'p, 'r, J> {
         ensures err { IfErr result (λ ready. ready ≡ ready_again running.entry) }
     {
         runner::laws::sections_stay_part();
+        let most = if gate.sees_each_grant() { 1 } else { u32::MAX };
         let mut next = Next::Running(running);
         let mut granted = 0u32;
         for _ in rt.forever() {
             next = match next {
                 Next::Running(running) => running.run(usize::MAX).1,
                 Next::Asking(asking) => {
-                    let answer = self.guarded.lock(rt).ask(asking, front);
+                    let answer = self.guarded.lock(rt).ask(asking, front, most);
                     match answer {
-                        Ok(Asked::Got(further)) => {
-                            granted = granted.wrapping_add(1);
-                            gate.pass(request.thread, granted);
-                            further
-                        }
-                        Ok(Asked::Waits(again, _)) => {
-                            request.parking.wait(rt);
-                            Next::Asking(again)
+                        Ok((asked, count)) => {
+                            granted = pass_each(gate, request.thread, granted, count);
+                            match asked {
+                                Asked::Got(further) => further,
+                                Asked::Waits(again, _) => {
+                                    request.parking.wait(rt);
+                                    Next::Asking(again)
+                                }
+                            }
                         }
                         Err(ready) => {
                             self.wakings.wake_all();
