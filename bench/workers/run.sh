@@ -2,7 +2,7 @@
 # Transfers between two accounts by 1, 2 and 4 threads, on the same two accounts and on two for each thread: the scripts
 # of a program by `run_threads`, and beside them C++ with a std::mutex round each account, locked in order, and with one
 # round all; all keep a history. Prints for each the calls in a second, by the least of so many runs of each of ROUNDS
-# rounds; and the growths of memory for each call, of one thread in the long run.
+# rounds; and the growths of memory for each call of one thread in the long run, without those that compiling takes.
 #
 #     bench/workers/run.sh [ROUNDS]
 set -euo pipefail
@@ -45,12 +45,13 @@ for threads, is_same in SHAPES:
     mine, ordered, one = (best[threads, is_same, who] for who in ("workers", "ordered", "global"))
     name = f"{threads} thread{'s' * (threads > 1)}, {'the same locks' if is_same else 'disjoint locks'}"
     print(f"{name:24} {mine:10,.0f} {ordered:16,.0f} {one:12,.0f} {mine / ordered:11.2f} {mine / one:7.2f}")
-def growths(calls):
+def growths(calls, runs):
     path, counts = work / f"{calls}.al", work / "counts"
     path.write_text(text(1, calls, True))
     environment = dict(os.environ, LD_PRELOAD=str(work / "counting.so"), FAIL_COUNTS=str(counts))
-    subprocess.run([program, path, "1"], env=environment, capture_output=True, check=True)
+    subprocess.run([program, path, str(runs)], env=environment, capture_output=True, check=True)
     return int(counts.read_text().split()[0])
-few, many = growths(10000), growths(20000)
+# The program reads and compiles its file once, which takes a growth for each call of the script.
+few, many = (growths(calls, 2) - growths(calls, 1) for calls in (10000, 20000))
 print(f"growths of memory for each call: {(many - few) / 10000:.2f}")
 PYTHON
