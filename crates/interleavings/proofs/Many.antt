@@ -77,6 +77,17 @@ stops_in_turn first w last count left t within some so_far same begins = record 
   begins = ap (λ (x : ThreadsOf). (happens x.plan x.world t).0) same ∙ begins;
 }
 
+-- a step was taken, and the steps stop behind it
+pub stops_behind : (first next last : ThreadsOf) (t n : ℕ) → next ≡ with_steps first (t ∷ []) →
+    StopsAtBegin next (replicate n t) last → StopsAtBegin first (replicate (suc n) t) last
+stops_behind first next last t n taken stop = record {
+  taken = suc stop.taken;
+  thread = stop.thread;
+  next = stop.next;
+  stands = stop.stands ∙ ap (λ (w : ThreadsOf). with_steps w (take stop.taken (replicate n t))) taken;
+  begins = stop.begins;
+}
+
 get_first : (ys zs : List ℕ) (i t : ℕ) → slice_get ys i ≡ Some t → slice_get (ys ++ zs) i ≡ Some t
 get_first [] zs i t h = absurd cc
 get_first (y ∷ ys) zs zero t h = h

@@ -1,11 +1,11 @@
 //! The turns of the items of a steps file.
 
-ghost use Rattle.std.specs.Prelude.{◌≡◌, ◌≤◌, ⊤, length, drop, replicate, true, IfOk, OnOk, MatchOption};
+ghost use Rattle.std.specs.Prelude.{◌≡◌, ◌≤◌, ⊤, ℕ, length, drop, replicate, true, IfOk, OnOk, OnErr, MatchOption};
 ghost use Rattle.input_files.specs.Steps.{Answers, IfFault};
 ghost use Rattle.interleavings.specs.Items.{is_idle, is_stopped, until_stop, until_call_end, steps_until, turns_of};
-ghost use Rattle.interleavings.specs.Working.Found.{is_end, Takes, is_counted, are_counted, count_within, Adds, IsTooMuch};
+ghost use Rattle.interleavings.specs.Working.Found.{is_end, Stops, Takes, is_counted, are_counted, count_within, Adds, IsTooMuch};
 ghost use Rattle.interleavings.specs.Working.Found.{RunsItems, RunsFromOpening, RunIsTooMuch, CountsItems, CountIsTooMuch};
-ghost use Rattle.interleavings.specs.Threads.{at_opening, with_steps};
+ghost use Rattle.interleavings.specs.Threads.{at_opening, with_steps, StopsAtBegin};
 
 use crate::status::ThreadStatus;
 use crate::world::World;
@@ -59,6 +59,7 @@ impl World<'_> {
         ensures count { IfOk result (λ count. count ≡ until_stop self.old.plan thread left self.old.world) }
         ensures within { IfOk result (λ count. MatchOption count ⊤ (λ n. n ≤ left)) }
         ensures world { IfOk result (λ count. Takes thread count self.old self.new) }
+        ensures err { OnErr result (Stops thread self.old self.new) }
     {
         let mut count = 0;
         'steps: loop {
@@ -87,6 +88,7 @@ impl World<'_> {
         ensures count { IfOk result (λ count. count ≡ until_call_end self.old.plan thread left self.old.world) }
         ensures within { IfOk result (λ count. MatchOption count ⊤ (λ n. n ≤ left)) }
         ensures world { IfOk result (λ count. Takes thread count self.old self.new) }
+        ensures err { OnErr result (Stops thread self.old self.new) }
     {
         if is_idle(self.state(thread)) {
             return Ok(Some(0));
@@ -108,7 +110,7 @@ impl World<'_> {
     ///
     /// # Errors
     ///
-    /// Out of memory, only for a step that would begin a call. Some of the steps before it are taken.
+    /// Out of memory, only for a step that would begin a call. The world is then that before this step.
     pub fn steps_until(
         &mut self,
         alloc: Global,
@@ -120,6 +122,7 @@ impl World<'_> {
         ensures within { IfOk result (λ count. MatchOption count ⊤ (λ n. n ≤ left)) }
         ensures world { IfOk result (λ count. MatchOption count ⊤ (λ n.
             self.new ≡ with_steps self.old (replicate n item.thread))) }
+        ensures err { OnErr result ((n : ℕ) × StopsAtBegin self.old (replicate n item.thread) self.new) }
     {
         let thread = item.thread;
         match item.until {

@@ -13,7 +13,7 @@ use Rattle.input_files.specs.Steps.{in_front}
 use Rattle.worlds.specs.declared.event.Event.{Event}
 use Rattle.worlds.specs.declared.event.Event.TheVariants.{Moved, Ended}
 use Rattle.worlds.specs.Worlds.{happens, world_after}
-use Rattle.interleavings.specs.Threads.{ThreadsOf, with_steps, at_opening}
+use Rattle.interleavings.specs.Threads.{ThreadsOf, with_steps, at_opening, StopsAtBegin}
 use Rattle.interleavings.specs.Items.{turn_and, turns_from}
 use Rattle.interleavings.specs.declared.items.Finder.{Finder}
 
@@ -31,6 +31,10 @@ is_end _ = false
 -- the given number of steps of a thread were taken, if the number is known
 abbrev pub Takes : ℕ → Option ℕ → ThreadsOf → ThreadsOf → Type 0
 Takes t count old new = MatchOption count ⊤ (λ n. new ≡ with_steps old (replicate n t))
+
+-- the thread's steps stopped before one that would have begun a call; those before it were taken
+abbrev pub Stops : ℕ → ThreadsOf → ThreadsOf → Type 0
+Stops t old new = (n : ℕ) × StopsAtBegin old (replicate n t) new
 
 -- the number with more added, if it is known
 abbrev pub plus : ℕ → Option ℕ → Option ℕ
