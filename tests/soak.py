@@ -1,12 +1,17 @@
 #!/usr/bin/env python3
-"""Runs of 64 threads with 100,000 calls together, one after another for a given time, each judged.
+"""Runs of many threads, one after another for a given time, each judged.
 
     tests/soak.py PROGRAM [--minutes N] [--limit N] [--seed N]
+    tests/soak.py PROGRAM --emitted [--minutes N] [--limit N] [--seed N]
 
-PROGRAM is the built program. Each run is of a program that is drawn: 64 threads whose calls add to counters, move money
-between accounts of a pool in both directions, walk two globals in one section and loop. Each is judged by what can be
-known whatever the order was: each thread's calls are in the history once and in their order, the counters have what
-was added, the accounts together have nothing, as at first. Every tenth history is given to `replay` as well.
+PROGRAM is the built program. Each run is of a program that is drawn: 64 threads with 100,000 calls together, which add to
+counters, move money between accounts of a pool in both directions, walk two globals in one section and loop. Each is judged
+by what can be known whatever the order was: each thread's calls are in the history once and in their order, the counters have
+what was added, the accounts together have nothing, as at first. Every tenth history is given to `replay` as well.
+
+With --emitted 16 threads of C call the sections that `emit` wrote, 2,000 times each with arguments that are drawn, compiled by
+clang -fsanitize=thread: of the program above, those of examples/ and ones that are drawn, in turn, each compiled once for ten
+runs. ThreadSanitizer has to find nothing, and `replay --open` says `same`. A run that spins for ever is left out and told.
 
 Told each minute and at the end: runs, their least, middle and greatest time, and the greatest peak of memory. A run that
 isn't over after --limit seconds (default 300) is a hang: its threads' kernel stacks are told, its program is kept, and the
@@ -15,6 +20,7 @@ status is 1, as at any run that isn't right. The last line is 'N runs, M failed'
 
 import argparse
 import collections
+import itertools
 import os
 import pathlib
 import random
@@ -25,7 +31,14 @@ import sys
 import tempfile
 import time
 
+from helper_programs import drawn
+
+TOP = pathlib.Path(__file__).resolve().parent.parent
+sys.path.insert(0, str(TOP / "tools"))
+from stress import Refused, Stress  # noqa: E402
+
 THREADS, CALLS, ACCOUNTS = 64, 100_000, 16
+EMITTED_THREADS, EMITTED_CALLS, EMITTED_RUNS = 16, 2000, 10
 CALL = re.compile(r"call (\d+) (\d+) (\d+) (\w+)\((.*?)\) (.*)")
 TEXT = f"""lock G; lock H;
 struct Acc {{ lock l; int bal protected_by(l); }}
@@ -106,6 +119,32 @@ def stacks_of(process):
     return "\n".join(said)
 
 
+def peak_of(process):
+    """The most memory that a process has had so far, in KiB."""
+    try:
+        for line in pathlib.Path(f"/proc/{process}/status").read_text().splitlines():
+            if line.startswith("VmHWM:"):
+                return int(line.split()[1])
+    except OSError:
+        pass
+    return 0
+
+
+def watched(words, out, limit):
+    """The process of these words after its end, and its peak of memory; one that doesn't end in time is told and killed."""
+    began, peak = time.time(), 0
+    process = subprocess.Popen(words, stdout=out, stderr=subprocess.PIPE)
+    while process.poll() is None and time.time() - began < limit:
+        peak = max(peak, peak_of(process.pid))
+        time.sleep(0.02)
+    if process.poll() is None:
+        print(f"no end after {limit} s; its threads:\n{stacks_of(process.pid)}", flush=True)
+        process.kill()
+        process.wait()
+        return None, peak
+    return process, peak
+
+
 class Soak:
     def __init__(self, program, limit, work):
         self.program, self.limit, self.work = program, limit, work
@@ -117,20 +156,10 @@ class Soak:
         source.write_text(text_of(scripts))
         began = time.time()
         with open(history, "wb") as out:
-            process = subprocess.Popen([self.program, "run", source], stdout=out, stderr=subprocess.PIPE)
-            while process.poll() is None and time.time() - began < self.limit:
-                try:
-                    for line in pathlib.Path(f"/proc/{process.pid}/status").read_text().splitlines():
-                        if line.startswith("VmHWM:"):
-                            self.peak = max(self.peak, int(line.split()[1]))
-                except OSError:
-                    pass
-                time.sleep(0.02)
-            if process.poll() is None:
-                print(f"no end after {self.limit} s; its threads:\n{stacks_of(process.pid)}", flush=True)
-                process.kill()
-                process.wait()
-                return False
+            process, peak = watched([self.program, "run", source], out, self.limit)
+        self.peak = max(self.peak, peak)
+        if process is None:
+            return False
         self.times.append(time.time() - began)
         if process.returncode:
             print(f"status {process.returncode}: {process.stderr.read().decode()}", flush=True)
@@ -150,13 +179,88 @@ class Soak:
               f"{statistics.median(times):.2f}, greatest {max(times):.2f}; peak {self.peak / 1024:.0f} MiB", flush=True)
 
 
+class EmittedSoak:
+    """Runs of emitted C under ThreadSanitizer."""
+
+    def __init__(self, program, limit, seed):
+        self.program, self.limit, self.seed = program, limit, seed
+        self.times, self.failed, self.programs, self.spun, self.peak = [], 0, 0, 0, 0
+
+    def sources(self):
+        """The program above, the examples, and then ever more that are drawn."""
+        yield TEXT
+        for file in sorted((TOP / "examples").glob("*.al")):
+            yield file.read_text(encoding="latin-1")
+        for number in itertools.count(self.seed * 1_000_000):
+            yield "\n".join(drawn(number, lists=number % 2 == 1))
+
+    def try_source(self, text, folder):
+        """What is wrong with the runs of one program, if something is."""
+        source = folder / "program.al"
+        source.write_text(text, encoding="latin-1")
+        try:
+            stress = Stress(self.program, source, folder, "clang -O1 -g -fsanitize=thread")
+        except Refused:
+            return None
+        self.programs += 1
+        for number in range(EMITTED_RUNS):
+            began, history, seed = time.time(), folder / "history", self.programs * EMITTED_RUNS + number
+            words = [folder / "caller", str(EMITTED_THREADS), str(EMITTED_CALLS), str(seed), history]
+            process, peak = watched(words, subprocess.DEVNULL, self.limit)
+            self.peak = max(self.peak, peak)
+            if process is None:
+                self.spun += 1
+                return None
+            said = process.stderr.read().decode(errors="replace")
+            if process.returncode or said:
+                return f"the run ends with {process.returncode}\n{said}"
+            self.times.append(time.time() - began)
+            verdict = stress.judged(history)
+            if verdict.startswith("unsettled"):
+                self.spun += 1
+                return None
+            if verdict != "same\n":
+                return verdict
+        return None
+
+    def tell(self):
+        times = self.times or [0]
+        print(f"{self.programs} programs, {len(self.times)} runs, {self.failed} failed, {self.spun} programs spin; seconds: least "
+              f"{min(times):.2f}, middle {statistics.median(times):.2f}, greatest {max(times):.2f}; peak {self.peak / 1024:.0f} MiB", flush=True)
+
+
+def soak_emitted(program, a):
+    """The runs for the given time; whether all were right."""
+    began = told = time.time()
+    soak = EmittedSoak(program, a.limit, a.seed)
+    for number, text in enumerate(soak.sources()):
+        if time.time() - began > a.minutes * 60:
+            break
+        with tempfile.TemporaryDirectory() as folder:
+            wrong = soak.try_source(text, pathlib.Path(folder))
+        if wrong:
+            soak.failed += 1
+            kept = pathlib.Path(tempfile.gettempdir()) / f"soak_emitted_{a.seed}_{number}.al"
+            kept.write_text(text, encoding="latin-1")
+            print(f"{wrong}\nits program is {kept}", flush=True)
+        if time.time() - told > 60:
+            told = time.time()
+            soak.tell()
+    soak.tell()
+    print(f"{len(soak.times)} runs, {soak.failed} failed")
+    return not soak.failed
+
+
 def main():
     p = argparse.ArgumentParser()
     p.add_argument("program")
+    p.add_argument("--emitted", action="store_true")
     p.add_argument("--minutes", type=float, default=60)
     p.add_argument("--limit", type=float, default=300)
     p.add_argument("--seed", type=int, default=1)
     a = p.parse_args()
+    if a.emitted:
+        sys.exit(0 if soak_emitted(os.path.realpath(a.program), a) else 1)
     began, told, count = time.time(), time.time(), 0
     with tempfile.TemporaryDirectory() as folder:
         soak = Soak(os.path.realpath(a.program), a.limit, pathlib.Path(folder))
