@@ -18,9 +18,8 @@ use Rattle.lock_manager.specs.Manager.{Managed}
 use Rattle.lock_manager.specs.Working.Calls.{Begins}
 use Rattle.lowering.specs.Plans.{Plan, IsCompiled}
 use Rattle.worlds.specs.Waiting.{first_if}
-use Rattle.lowering.specs.Working.Compiled.{IsRoomAt}
 use Rattle.worlds.specs.Worlds.{locals_at}
-use Rattle.worlds.specs.Working.InOrder.{SectionsStayInOrder}
+use Rattle.worlds.specs.Working.InOrder.{SectionsStayInOrder, SufficesFor}
 use Rattle.runner_machine.specs.Working.Machines.{RunOf}
 use Rattle.runner.specs.Working.Opens.{OpenOf, ReadyOf, IsOpen, Began}
 use Rattle.runner.specs.declared.body.SectionFrame.{SectionFrame}
@@ -114,7 +113,7 @@ kept_at_first plan b ticket step laws p is =
 
 -- the call has begun
 pub has_begun : (m m' : Managed) (ready : ReadyOf) (plan : Plan) (call : Invocation) (room : Room) (ticket : TicketOf) (o : OpenOf) →
-    IsRoomAt plan call.section room → Begins m ready.thread room ticket m' →
+    SufficesFor plan call.section room → Begins m ready.thread room ticket m' →
     o ≡ begun_as plan ticket.thread ready.step room ticket.session.begun call → Began m ready plan call o m'
 has_begun m m' ready plan call room ticket o its_room begins is =
     let e : o ≡ begun_as plan ready.thread ready.step room (length m.history) call =

@@ -6,6 +6,7 @@ use Rattle.std.proofs.lemmas.Option.{slice_get_within, get_or_from_slice_get}
 use Rattle.core_lang.specs.declared.value.Value.{Value}
 use Rattle.core_lang.specs.declared.tree.Section.{Section}
 use Rattle.locks.specs.declared.lock.Lock.{Lock}
+use Rattle.layout.specs.declared.room.Room.{Room}
 use Rattle.code.specs.declared.instr.Instr.{Instr}
 use Rattle.code.specs.declared.section_code.SectionCode.{SectionCode}
 use Rattle.code.specs.declared.section_code.ProgramCode.{ProgramCode}
@@ -78,7 +79,8 @@ pub stack_fits : (o : OpenOf) → SectionsStayInOrder → RunsInOrder o →
     length o.activation.machine.stack ≤ o.room.operands
 stack_fits o laws r =
     let next = laws.next o.plan o.activation r.is_open.compiled r.is_open.in_order r.pending r.outcome in
-    omega (arith, next.fits, (r.is_open.room next.section next.is).operands)
+    let suffices = r.is_open.room next.section next.is in
+    omega (arith, next.fits, ap (λ (room : Room). room.operands) suffices.is, suffices.is_whole.operands)
 
 -- an instruction keeps the call of its section
 moved_call : (o : OpenOf) (e : Effect HeldCells) → (instructed o.plan o.activation e).call ≡ o.activation.call

@@ -1,7 +1,8 @@
 //! The state of an open section, in one block that its thread keeps from one section to the next.
 
-ghost use Rattle.std.specs.Prelude.{◌≡◌, [], OnOk, IfOk};
+ghost use Rattle.std.specs.Prelude.{◌≡◌, ◌<◌, [], length, OnOk, IfOk};
 ghost use Rattle.core_lang.specs.WellFormed.{CanCall};
+ghost use Rattle.worlds.specs.Working.InOrder.{SufficesFor};
 ghost use Rattle.runner.specs.Working.Ties.{IsBeginning, its_call, entry_in};
 
 use crate::opening::{opening_locals, refill};
@@ -16,6 +17,18 @@ use moved_cells::grant::Grant;
 use runner_machine::machine::StackMachine;
 use source::memory::NoMemory;
 use std::alloc::Global;
+
+// The room for a run of a section. Different locks share no cell, so it needs at most all cells of the program.
+fn needed_room(program: &Program, section: usize) -> Room
+    requires { section < length program.now.program.sections.items }
+    ensures { SufficesFor program.now section result }
+{
+    let whole = program.room(section);
+    Room {
+        cells: program.layout().cells_count().min(whole.cells),
+        ..whole
+    }
+}
 
 // The state of an open section, except its program and its ticket.
 pub(crate) struct SectionFrame<'p> {
@@ -51,7 +64,7 @@ impl<'p> SectionFrame<'p> {
         ensures grants { self.new.grants.items ≡ [] }
     {
         let called = &program.expanded().sections[section];
-        let room = program.room(section);
+        let room = needed_room(program, section);
         self.section = section;
         self.room = room;
         self.taken = PathSet::new();

@@ -18,16 +18,15 @@ use Rattle.layout.specs.declared.room.Room.{Room}
 use Rattle.layout.specs.LockCells.{cells_of}
 use Rattle.code.specs.Lowering.{lists_at}
 use Rattle.lowering.specs.Plans.{Plan, IsCompiled}
-use Rattle.lowering.specs.Working.Rooms.{IsRoomOf}
 use Rattle.worlds.specs.Worlds.{Activation, activation, section_at, granted, instructed, next_effect}
 use Rattle.worlds.specs.Working.Ahead.{IsAsking, CanGoOn, running, asking, over, IsReady}
-use Rattle.worlds.specs.Working.InOrder.{IsInOrder, AreCellsOf, FitRoom, SectionsStayInOrder}
+use Rattle.worlds.specs.Working.InOrder.{IsInOrder, AreCellsOf, Suffices, FitRoom, SectionsStayInOrder}
 use Rattle.worlds.proofs.Cells.{Among, cells_of_has, cells_of_only, key_only, key_has}
 use Rattle.worlds.proofs.Well.{Laws, well_begun, well_instructed, well_granted, well_asked, true_commit}
 use Rattle.worlds.proofs.Steps.{can_call}
 use Rattle.worlds.proofs.Going.{ordered, instructed_on, has_case, has_room, granted_on, asked_on, begun_on}
 use Rattle.worlds.proofs.Ready.{ReadyLaws, has_cells, ready_instructed, rises_in, heap_overwritten}
-use Rattle.worlds.proofs.Sums.{locks_fit}
+use Rattle.worlds.proofs.Sums.{locks_fit, locks_within}
 
 pub record InOrderLaws : Type 0 where
   pub well : Laws
@@ -131,21 +130,23 @@ module _ (laws : InOrderLaws) (plan : Plan) (a : Activation) (ok : IsCompiled pl
         path_lock f.come.locals x.1 lock (contains_at (lock_paths plan.program r.section) x.0 x.1 x.2) x.3
 
     fit_all : (section : Section) (room : Room) → section_at plan a.call.section ≡ Some section →
-        IsRoomOf plan.program plan.layout section room →
+        Suffices plan.program plan.layout section room →
         FitRoom plan all room
-    fit_all section room is room_is =
+    fit_all section room is suffices =
         let same : section ≡ r.section = same_Some section r.section (sym is ∙ r.is) in
-        let mine : IsRoomOf plan.program plan.layout r.section room = subst (λ s. IsRoomOf plan.program plan.layout s room) same room_is in
+        let mine : Suffices plan.program plan.layout r.section room = subst (λ s. Suffices plan.program plan.layout s room) same suffices in
         let few = laws.few plan.program r.section plan.ranks lists f.point.number a.machine.locals all
         (ordered laws.ready.going plan ok a.call.section r.section r.is) f.come.run in
         let sum = locks_fit plan.layout plan.program.shape a.machine.locals all (lock_paths plan.program r.section) few.0
         (λ lock c. let x = named lock c in in_flat_map locks_by (lock_paths plan.program r.section) x.0 x.1 lock x.2 x.3)
         (path_lock f.come.locals) in
-        let count = mine.locks in
-        let cells_count = mine.cells in
+        let within = locks_within plan.layout.cell_locks all few.0 in
+        let count = ap (λ (r : Room). r.locks) mine.is ∙ mine.is_whole.locks in
+        let cells_count = ap (λ (r : Room). r.cells) mine.is in
+        let whole_count = mine.is_whole.cells in
         record {
           locks_fit = let n = few.1 in omega (arith, n, count);
-          cells_fit = omega (arith, sum, cells_count);
+          cells_fit = omega (arith, sum, within, cells_count, whole_count);
         }
 
   -- a section with a pending lock asks

@@ -137,6 +137,22 @@ sum_covered cells (x ∷ xs) d =
     let more = one_more cells x xs (distinct_first x xs d) in
     omega (arith, rest, sum, size, more)
 
+count_most : (p : Lock → Bool) (cells : List Lock) → count_by p cells ≤ length cells
+count_most p [] = omega arith
+count_most p (l ∷ ls) =
+    let rest = count_most p ls in
+    let sum = counted_cons p l ls in
+    let one = few (p l) in
+    omega (arith, rest, sum, one)
+
+-- different locks have together at most all cells
+pub locks_within : (cells locks : List Lock) → AllPairs ◌≢◌ locks →
+    sum_by (λ (lock : Lock). length (cells_of cells lock)) locks ≤ length cells
+locks_within cells locks distinct =
+    let sum = sum_covered cells locks distinct in
+    let most = count_most (among locks) cells in
+    omega (arith, sum, most)
+
 -- ---- the most cells of a class
 
 counted : (b : Bool) (n m : ℕ) → m ≤ (if b then max n m else m)

@@ -13,4 +13,4 @@ pub use Rattle.worlds.specs.Waiting.{RisingHasNoCycle, RisingWaitsForHolders, Ri
 pub use Rattle.worlds.specs.Waiting.{HasNext, AllHaveNext, InstructionsHaveTheirCase}
 pub use Rattle.worlds.specs.Working.InTurn.{RiseBehind, AskedInTurn}
 pub use Rattle.worlds.specs.Working.Ahead.{IsReadyWorld, WorldsStayReady}
-pub use Rattle.worlds.specs.Working.InOrder.{IsInOrder, AreCellsOf, FitRoom, SectionsStayInOrder}
+pub use Rattle.worlds.specs.Working.InOrder.{IsInOrder, AreCellsOf, Suffices, SufficesFor, FitRoom, SectionsStayInOrder}

@@ -20,10 +20,9 @@ use Rattle.lock_manager.specs.Manager.{Managed}
 use Rattle.lock_manager.specs.Working.Managers.{place_of}
 use Rattle.lock_manager.specs.Working.Calls.{Begins, Knows, CanRelease, Releases, GivesUp, after_grant, after_refusal}
 use Rattle.lowering.specs.Plans.{Plan, IsCompiled}
-use Rattle.lowering.specs.Working.Compiled.{IsRoomAt}
 use Rattle.worlds.specs.Worlds.{Activation, activation, granted, instructed, next_effect, commit}
 use Rattle.worlds.specs.Waiting.{first_if}
-use Rattle.worlds.specs.Working.InOrder.{IsInOrder}
+use Rattle.worlds.specs.Working.InOrder.{IsInOrder, SufficesFor}
 
 -- a thread with no section open, and the number of its next call
 pub record ReadyOf : Type 0 where
@@ -91,7 +90,7 @@ Prepares ready plan call p = p ≡ record { plan = plan; thread = ready.thread; 
 -- a thread without an open section begins a call
 pub record Began (m : Managed) (ready : ReadyOf) (plan : Plan) (call : Invocation) (o : OpenOf) (m' : Managed) : Type 0
   where
-    pub room : IsRoomAt plan call.section o.room
+    pub room : SufficesFor plan call.section o.room
     pub is : o ≡ record {
       plan = plan;
       thread = ready.thread;
@@ -191,12 +190,11 @@ pub record GivenUp (m : Managed) (o : OpenOf) (m' : Managed) : Type 0 where
 
 -- ---- what holds of every open section
 
--- the invariant of an open section: its program is compiled, the section is in order, and its room is that of its
--- section
+-- the invariant of an open section: its program is compiled, the section is in order, and its room suffices
 pub record IsOpen (o : OpenOf) : Type 0 where
   pub compiled : IsCompiled o.plan
   pub in_order : IsInOrder o.plan o.activation
-  pub room : IsRoomAt o.plan o.activation.call.section o.room
+  pub room : SufficesFor o.plan o.activation.call.section o.room
 
 -- ---- the properties of its state
 

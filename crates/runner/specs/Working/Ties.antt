@@ -14,8 +14,8 @@ use Rattle.code.specs.Machine.{Effect, act}
 use Rattle.code.specs.Memory.{HeldCells, load_held, store_held}
 use Rattle.lock_manager.specs.Working.Sessions.{TicketOf}
 use Rattle.lowering.specs.Plans.{Plan, IsCompiled}
-use Rattle.lowering.specs.Working.Compiled.{IsRoomAt}
 use Rattle.worlds.specs.Worlds.{activation, locals_at}
+use Rattle.worlds.specs.Working.InOrder.{SufficesFor}
 use Rattle.runner_machine.specs.Working.Machines.{RunOf, at_first}
 use Rattle.lock_manager.specs.Manager.{Managed}
 use Rattle.moved_cells.specs.Working.Grants.{GrantOf}
@@ -96,7 +96,7 @@ HasMoved old (Some outcome) new = (new ≡ old) × (moved old ≡ over_by old ou
 pub record IsBeginning (plan : Plan) (b : SectionFrame) : Type 0 where
   pub compiled : IsCompiled plan
   pub fits : CanCall plan.program b.section b.arguments.items
-  pub room_is : IsRoomAt plan b.section b.room
+  pub room_is : SufficesFor plan b.section b.room
   pub run_is : b.machine ≡ at_first (locals_at plan (its_call b)) plan.layout b.room
   pub none_pending : b.pending.locks ≡ []
   pub none_taken : (i : ℕ) → has b.taken i ≡ false

@@ -1,10 +1,11 @@
 -- The properties that an open section keeps by itself, along its own steps, as the law of `src/laws.rt` claims them.
 -- Nobody has to believe this file.
-use Rattle.std.specs.Prelude.{◌≡◌, ℕ, ◌≤◌, true, List, [], ◌∷◌, ◌++◌, length, map, Some, None}
+use Rattle.std.specs.Prelude.{◌≡◌, ℕ, ◌≤◌, min, true, List, [], ◌∷◌, ◌++◌, length, map, slice_get, Some, None}
 use Rattle.std.specs.List.{Contains, sum_by}
 use Rattle.core_lang.specs.declared.value.Value.{Value}
 use Rattle.core_lang.specs.declared.value.Outcome.{Outcome}
 use Rattle.core_lang.specs.declared.tree.Section.{Section}
+use Rattle.core_lang.specs.declared.typed.Typed.{Typed}
 use Rattle.core_lang.specs.Serial.{Invocation}
 use Rattle.core_lang.specs.Typing.{IsHeap, HasCells}
 use Rattle.core_lang.specs.WellFormed.{CanCall}
@@ -12,6 +13,7 @@ use Rattle.locks.specs.declared.lock.Lock.{Lock}
 use Rattle.locks.specs.Order.{Precedes}
 use Rattle.layout.specs.declared.room.Room.{Room}
 use Rattle.layout.specs.LockCells.{cells_of}
+use Rattle.layout.specs.Layouts.{LayoutOf}
 use Rattle.code.specs.Memory.{value_at, overwritten, Agrees}
 use Rattle.history.specs.Commits.{IsTrueCommit}
 use Rattle.lowering.specs.Plans.{Plan, IsCompiled}
@@ -30,6 +32,19 @@ pub record IsInOrder (plan : Plan) (a : Activation) : Type 0 where
 pub record AreCellsOf (plan : Plan) (lock : Lock) (values : List (ℕ × Value)) : Type 0 where
   pub cells : map (λ (x : ℕ × Value). x.0) values ≡ cells_of plan.layout.cell_locks lock
   pub typed : SeesTyped plan.program (λ cell. value_at values cell)
+
+-- the room suffices for a run of the section: it is that of the section, but has at most all cells of the program, since
+-- different locks share no cell
+pub record Suffices (program : Typed) (layout : LayoutOf) (section : Section) (room : Room) : Type 0 where
+  pub whole : Room
+  pub is_whole : IsRoomOf program layout section whole
+  pub is : room ≡ record whole { cells = min (length layout.cell_locks) whole.cells }
+
+-- the same for the section with this number
+abbrev pub SufficesFor : Plan → ℕ → Room → Type 0
+SufficesFor plan k room =
+    (section : Section) → slice_get plan.program.sections.items k ≡ Some section →
+    Suffices plan.program plan.layout section room
 
 -- the locks and their cells fit the room
 pub record FitRoom (plan : Plan) (locks : List Lock) (room : Room) : Type 0 where
@@ -55,13 +70,13 @@ pub record SectionsStayInOrder : Type 0 where
   -- the next pending lock comes after all locks that the section holds
   pub rises : (plan : Plan) (a : Activation) (lock other : Lock) (rest : List Lock) → IsInOrder plan a →
       a.pending ≡ lock ∷ rest → Contains a.held other → Precedes plan.ranks other lock
-  -- if locks are pending, they and those that the section holds are locks of the program, and fit the section's room
+  -- if locks are pending, they and those that the section holds are locks of the program, and fit a room that suffices
   pub listed : (plan : Plan) (a : Activation) (first lock : Lock) (rest : List Lock) → IsCompiled plan →
       IsInOrder plan a → a.pending ≡ first ∷ rest → Contains (a.held ++ a.pending) lock →
       Contains plan.layout.locks lock
   pub fit : (plan : Plan) (a : Activation) (first : Lock) (rest : List Lock) (section : Section) (room : Room) →
       IsCompiled plan → IsInOrder plan a → a.pending ≡ first ∷ rest → section_at plan a.call.section ≡ Some section →
-      IsRoomOf plan.program plan.layout section room → FitRoom plan (a.held ++ a.pending) room
+      Suffices plan.program plan.layout section room → FitRoom plan (a.held ++ a.pending) room
   -- if the section has an outcome, its entry is true, and its writes leave a heap of the program one of the program
   pub ends : (plan : Plan) (thread step : ℕ) (a : Activation) (outcome : Outcome) → IsCompiled plan →
       IsInOrder plan a → a.outcome ≡ Some outcome → IsTrueCommit plan.program (commit thread step a outcome)

@@ -16,8 +16,8 @@ index-called-requires c =
     let same = ap (λ (t : Typed). length t.sections.items) c.expanded.ensures.program in
     omega (arith, within, same, c.expanded.result.now.sections.ok.0)
 
-pub room-room-requires : goal.room-room-requires
-room-room-requires c =
+pub needed_room-room-requires : goal.needed_room-room-requires
+needed_room-room-requires c =
     called_within c.args.program.now.program c.args.section c.args.arguments.now c.requires.fits
 
 pub returns-clause-begins : goal.returns-clause-begins
@@ -38,8 +38,8 @@ returns-clause-begins c =
     record {
       compiled = c.expanded.ensures.compiled;
       fits = can;
-      room_is = c.room-room.ensures;
-      run_is = c.in_ok-renew.ensures.ok ∙ (λ i. at_first (locals i) (c.layout.ensures i) c.room-room.result);
+      room_is = c.needed_room-room.ensures;
+      run_is = c.in_ok-renew.ensures.ok ∙ (λ i. at_first (locals i) (c.layout.ensures i) c.needed_room-room.result);
       none_pending = c.in_ok-empty_for.ensures.none;
       none_taken = c.new-self.ensures;
       not_asked = refl;
