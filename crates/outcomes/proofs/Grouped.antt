@@ -1,13 +1,21 @@
 -- Groups that are joined, one after another.
 use Rattle.std.proofs.Common.{◌≡◌, ◌≢◌, ◌<◌, ◌≤◌, ◌+◌, ℕ, zero, suc, Bool, true, false, List, [], ◌∷◌, ◌++◌, refl, sym}
-use Rattle.std.proofs.Common.{ap, ◌∙◌, subst, ⊎_elim, take, length, get_or, arith, if◌then◌else◌, ◌==◌}
+use Rattle.std.proofs.Common.{ap, ◌∙◌, subst, ⊎_elim, take, length, get_or, arith, if◌then◌else◌, ◌==◌, ◌||◌, ◌⊎◌, inl, inr, Option}
+use Rattle.bit_set.specs.declared.set.BitSet.{BitSet}
+use Rattle.bit_set.specs.Working.Sets.{has_number}
 use Rattle.std.specs.Prelude.{slice_index, slice_set}
 use Rattle.std.proofs.lemmas.Bool.{cases_lt}
 use Rattle.std.proofs.lemmas.Bool.Decides.{nat_tests}
 use Rattle.std.proofs.lemmas.List.{take_more}
+use Rattle.std.proofs.lemmas.Option.{slice_get-get_or}
 use Rattle.core_lang.specs.declared.tree.Section.{Section}
 use Rattle.outcomes.specs.declared.accesses.AccessWalk.{AccessWalk}
-use Rattle.outcomes.specs.Working.Grouping.{relabelled, IsRelabelled, AreTogether, IsCoarser}
+use Rattle.outcomes.specs.Working.Grouping.{relabelled, IsRelabelled, AreTogether, IsCoarser, IsFiner, AreLinked, AreJoined}
+use Rattle.outcomes.specs.Working.Grouping.{AreGrouped, AreFinest}
+use Rattle.outcomes.specs.Working.Marking.{marked, mark_at, has_mark, array_mark}
+use Rattle.outcomes.specs.declared.marks.TouchMarks.{TouchMarks}
+use Rattle.outcomes.specs.declared.touched.Touched.{Touched}
+use Rattle.core_lang.specs.declared.typed.Cell.{Cell}
 use Rattle.outcomes.specs.Working.Listing.{IsListed, AreListed}
 
 -- an item of a list does not depend on the default for indices past the end
@@ -131,3 +139,73 @@ pub joining_else : (before now : List ℕ) (i first : ℕ) (touching : ℕ → B
     Joining before now (i + 1) first touching
 joining_else before now i first touching none inv =
     record { coarser = inv.coarser; joined = joined_else now i first touching none inv.joined }
+
+-- ---- no more is joined than is linked
+
+relabelled_case : (from to group : ℕ) (b : Bool) → (group == from) ≡ b →
+    ((group ≡ from) × ((if b then to else group) ≡ to)) ⊎ ((if b then to else group) ≡ group)
+relabelled_case from to group true e = let same : group ≡ from = grind (arith, nat_tests) in inl (same, refl)
+relabelled_case from to group false e = inr refl
+
+module _ (now next : List ℕ) (i first from to : ℕ) (label : ℕ → ℕ) (lt : i < length now) (lt' : first < length now)
+    (is_from : slice_index now i ≡ from) (is_to : slice_index now first ≡ to) (meet : label i ≡ label first) (finer : IsFiner now label)
+    (new : IsRelabelled from to now next) where
+  -- a thread of the group that is moved, and one of the group to which it is moved
+  moved_to : (t u : ℕ) → t < length now → u < length now → slice_index now t ≡ from → slice_index now u ≡ to → label t ≡ label u
+  moved_to t u lt_t lt_u first_is second_is =
+      finer t i lt_t lt (first_is ∙ sym is_from) ∙ meet ∙ finer first u lt' lt_u (is_to ∙ sym second_is)
+
+  pub finer_then : IsFiner next label
+  finer_then t u lt_t lt_u same =
+      let in_t : t < length now = omega (arith, lt_t, new.0) in
+      let in_u : u < length now = omega (arith, lt_u, new.0) in
+      let e : relabelled from to (slice_index now t) ≡ relabelled from to (slice_index now u) =
+      sym (new.1 t in_t) ∙ same ∙ new.1 u in_u in
+      elim (relabelled_case from to (slice_index now t) (slice_index now t == from) refl) [
+        | inl moved_t ↦ (elim (relabelled_case from to (slice_index now u) (slice_index now u == from) refl) [
+          | inl moved_u ↦ finer t u in_t in_u (moved_t.0 ∙ sym moved_u.0)
+          | inr still_u ↦ moved_to t u in_t in_u moved_t.0 (sym still_u ∙ sym e ∙ moved_t.1)
+        ])
+        | inr still_t ↦ (elim (relabelled_case from to (slice_index now u) (slice_index now u == from) refl) [
+          | inl moved_u ↦ sym (moved_to u t in_u in_t moved_u.0 (sym still_t ∙ e ∙ moved_u.1))
+          | inr still_u ↦ finer t u in_t in_u (sym still_t ∙ e ∙ still_u)
+        ])
+      ]
+
+pub linked_then : (before now next : List ℕ) (i first from to : ℕ) (readers writers : BitSet) → i < length now → first < length now →
+    from ≡ get_or now i from → to ≡ get_or now first to → has_number writers first ≡ true →
+    (has_number readers i || has_number writers i) ≡ true → AreLinked before now readers writers →
+    IsRelabelled from to now next → AreLinked before next readers writers
+linked_then before now next i first from to readers writers lt lt' is_from is_to writes touches linked new label finer shared =
+    finer_then now next i first from to label lt lt' (any_default now i 0 from lt ∙ sym is_from) (any_default now first 0 to lt' ∙ sym is_to)
+    (sym (shared first i writes touches)) (linked label finer shared) new
+
+-- one more cell
+pub finest_then : (cells : List Cell) (touched : Touched) (now next : List ℕ) (n : ℕ) (readers writers : BitSet) →
+    ((t : ℕ) → has_number readers t ≡ marked cells touched.reads t n) → ((t : ℕ) → has_number writers t ≡ marked cells touched.writes t n) →
+    AreFinest cells touched now n → AreLinked now next readers writers → AreFinest cells touched next (n + 1)
+finest_then cells touched now next n readers writers readers_are writers_are finest linked label shared =
+    linked label (finest label (λ c below. shared c (omega (arith, below))))
+    (λ t u writes touches. shared n (omega arith) t u (sym (writers_are t) ∙ writes)
+    (subst (λ (b : Bool). (b || marked cells touched.writes u n) ≡ true) (readers_are u)
+    (subst (λ (b : Bool). (has_number readers u || b) ≡ true) (writers_are u) touches)))
+
+pub grouped_then : (cells : List Cell) (touched : Touched) (now next : List ℕ) (n : ℕ) (readers writers : BitSet) →
+    ((t : ℕ) → has_number readers t ≡ marked cells touched.reads t n) → ((t : ℕ) → has_number writers t ≡ marked cells touched.writes t n) →
+    AreGrouped cells touched now n → IsCoarser now next → AreJoined next readers writers → AreGrouped cells touched next (n + 1)
+grouped_then cells touched now next n readers writers readers_are writers_are grouped coarser joined c t u below lt_t lt_u writes touches =
+    ⊎_elim
+    (λ (le : c < n). coarser.1 t u (omega (arith, lt_t, coarser.0)) (omega (arith, lt_u, coarser.0))
+    (grouped c t u le (omega (arith, lt_t, coarser.0)) (omega (arith, lt_u, coarser.0)) writes touches))
+    (λ (le : n ≤ c). let same : c ≡ n = omega (arith, le, below) in
+    joined t u lt_t lt_u (writers_are t ∙ subst (λ (k : ℕ). marked cells touched.writes t k ≡ true) same writes)
+    (subst (λ (b : Bool). (b || has_number writers u) ≡ true) (sym (readers_are u))
+    (subst (λ (b : Bool). (marked cells touched.reads u n || b) ≡ true) (sym (writers_are u))
+    (subst (λ (k : ℕ). (marked cells touched.reads u k || marked cells touched.writes u k) ≡ true) same touches))))
+    (cases_lt c n)
+
+pub mark_is : (cells : List Cell) (marks : TouchMarks) (number thread : ℕ) (d : Cell) → number < length cells →
+    mark_at marks number (get_or cells number d).owner thread ≡ marked cells marks thread number
+mark_is cells marks number thread d within =
+    ap (λ (o : Option Cell). has_mark marks.cells.items number thread || array_mark o marks.arrays.items thread)
+    (sym (slice_get-get_or cells number d within))

@@ -1,13 +1,13 @@
 //! A partition of the threads into groups, such that calls of different groups commute.
 
-ghost use Rattle.std.specs.Prelude.{◌≡◌, ◌<◌, ◌≤◌, ℕ, true, false, length, IfOk, IfSome, IfNone};
+ghost use Rattle.std.specs.Prelude.{◌≡◌, ◌<◌, ◌≤◌, ℕ, true, false, length, slice_index, IfOk, IfSome, IfNone};
 ghost use Rattle.bit_set.specs.Working.Sets.{has_number};
 ghost use Rattle.core_lang.specs.Expansion.{IsExpansion};
 ghost use Rattle.core_lang.specs.WellFormed.{IsChecked};
 ghost use Rattle.outcomes.specs.Commuting.{AreIndependent};
 ghost use Rattle.outcomes.specs.Working.Listing.{AreListed};
 ghost use Rattle.outcomes.specs.Working.Grouping.{relabelled, IsRelabelled, IsCoarser, AreJoined};
-ghost use Rattle.outcomes.specs.Working.Grouping.{AreGroups, AreOneGroup};
+ghost use Rattle.outcomes.specs.Working.Grouping.{AreGroups, AreOneGroup, AreFinest, AreLinked};
 
 use crate::accesses::{AccessWalk, body_of};
 use crate::marks::TouchMarks;
@@ -20,7 +20,8 @@ use std::alloc::Global;
 
 // The groups in which each thread is alone.
 fn alone(alloc: Global, threads: usize) -> Result<Vec<usize>, NoMemory>
-    ensures { IfOk result (λ groups. length groups.items ≡ threads) }
+    ensures long { IfOk result (λ groups. length groups.items ≡ threads) }
+    ensures apart { IfOk result (λ groups. (k : ℕ) → k < threads → slice_index groups.items k ≡ k) }
 {
     let mut groups = Vec::new(alloc);
     for thread in 0..threads {
@@ -74,6 +75,7 @@ fn join(groups: &mut Vec<usize>, readers: BitSet, writers: BitSet)
     requires { length groups.old.items ≤ 128 }
     ensures coarser { IsCoarser groups.old.items groups.new.items }
     ensures joined { AreJoined groups.new.items readers writers }
+    ensures linked { AreLinked groups.old.items groups.new.items readers writers }
 {
     let touching = readers.union(writers);
     if let Some(first) = first_of(writers, groups.len()) {
@@ -95,7 +97,8 @@ fn grouped(
     threads: usize,
 ) -> Result<Vec<usize>, NoMemory>
     requires { threads ≤ 128 }
-    ensures { IfOk result (λ groups. AreGroups cells.now touched.now threads groups.items) }
+    ensures joined { IfOk result (λ groups. AreGroups cells.now touched.now threads groups.items) }
+    ensures finest { IfOk result (λ groups. AreFinest cells.now touched.now groups.items (length cells.now)) }
 {
     let mut groups = alone(alloc, threads)?;
     for number in 0..cells.len() {

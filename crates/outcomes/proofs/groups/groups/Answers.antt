@@ -13,4 +13,4 @@ returns-then-threads c =
     c.deref-then-threads.ensures.value (omega (arith, c.len-threads.ensures)) c.in_ok-bodies.ensures
     c.threads.ensures.more
     (omega (arith, c.in_ok-new-2.ensures, c.len-3.ensures)) (c.threads.ensures.marked c.if-threads.true)
-    c.grouped.ensures
+    c.grouped.ensures.joined

@@ -1,6 +1,7 @@
 use Rattle.std.proofs.Common.{◌<◌, ◌+◌, ◌∙◌, ℕ, Vec, Global, arith, ap, subst, sym, length}
 use Rattle.bit_set.specs.Working.Sets.{has_number}
-use Rattle.outcomes.proofs.Grouped.{Joining, joining_then, joining_else}
+use Rattle.outcomes.specs.Working.Grouping.{AreLinked}
+use Rattle.outcomes.proofs.Grouped.{Joining, joining_then, joining_else, linked_then}
 use Rattle.outcomes.proofs.groups.join.Goals as goal
 use Rattle.outcomes.proofs.groups.join.Goals.{then-contains, else-contains}
 
@@ -36,4 +37,15 @@ loop-thread-preserved c =
           subst (λ l. Joining before l (i + 1) first touching) (sym (ap (λ (g : Vec ℕ Global). g.items) w.groups-is))
           (joining_else before now i first touching (sym c.contains.ensures ∙ w.if-contains.false) inv)
     ] in
-    record { coarser = next.coarser; joined = next.joined }
+    let linked : AreLinked before c.if-contains.groups.items c.args.readers c.args.writers =
+    elim c.if-contains.branch [
+      | then-contains w ↦
+          subst (λ l. AreLinked before l c.args.readers c.args.writers) (sym (ap (λ (g : Vec ℕ Global). g.items) w.groups-is))
+          (linked_then before now w.relabel.new.groups.items i first w.index-group.result.now w.index-joined.result.now
+          c.args.readers c.args.writers lt lt' w.index-group.ensures w.index-joined.ensures c.in-Some.ensures.some.1
+          (sym (c.union-touching.ensures i) ∙ sym c.contains.ensures ∙ w.if-contains.true) c.loop-thread.invariant.linked w.relabel.ensures)
+      | else-contains w ↦
+          subst (λ l. AreLinked before l c.args.readers c.args.writers) (sym (ap (λ (g : Vec ℕ Global). g.items) w.groups-is))
+          c.loop-thread.invariant.linked
+    ] in
+    record { coarser = next.coarser; linked = linked; joined = next.joined }
