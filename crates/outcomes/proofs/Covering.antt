@@ -1,12 +1,12 @@
 -- Some orders stand for all.
-use Rattle.std.proofs.Common.{◌≡◌, ◌∙◌, ◌≢◌, ℕ, ◌+◌, ◌*◌, ◌<◌, ◌≤◌, zero, suc, Bool, true, false, cond, List, [], ◌∷◌, ◌++◌}
+use Rattle.std.proofs.Common.{◌≡◌, ◌∙◌, ◌≢◌, ℕ, ◌+◌, ◌-◌, ◌*◌, ◌<◌, ◌≤◌, zero, suc, Bool, true, false, cond, List, [], ◌∷◌, ◌++◌}
 use Rattle.std.proofs.Common.{length, map, take, add-one, Option, Some, None, sum_by, nat_eq, ◌⊎◌, inl, inr, ap, sym, subst, refl, arith}
 use Rattle.std.specs.Prelude.{slice_index}
 use Rattle.std.specs.List.{Any, Contains}
 use Rattle.std.proofs.lemmas.Bool.{cases_eq}
 use Rattle.std.proofs.lemmas.Bool.Decides.{Decides-eqb}
 use Rattle.std.proofs.lemmas.List.{get_or-map, get_or_default, length-map}
-use Rattle.std.proofs.lemmas.List.Sums.{sum_by_more, get_or-le-sum_by}
+use Rattle.std.proofs.lemmas.List.Sums.{sum_by_more, sum_by-take-le, get_or-le-sum_by}
 use Rattle.core_lang.specs.declared.typed.Typed.{Typed}
 use Rattle.core_lang.specs.Laws.{OverIsWhole, SettledAreSerial, HaveAtMostOneSerial}
 use Rattle.core_lang.specs.Serial.{Invocation, go_on, run_call, serial_with}
@@ -55,7 +55,7 @@ some_ready None (Some c) t some = (t, refl)
 some_ready None None t (inl (u, is)) = cc
 some_ready None None t (inr (c, is)) = cc
 
-ready_there : (program : Typed) (done : List ℕ) (count t : ℕ) (call : Invocation) → t < count →
+pub ready_there : (program : Typed) (done : List ℕ) (count t : ℕ) (call : Invocation) → t < count →
     next_call program done t ≡ Some call → (u : ℕ) × (first_ready program done count ≡ Some u)
 ready_there program done zero t call within next = absurd (omega (arith, within))
 ready_there program done (suc c) t call within next =
@@ -143,6 +143,56 @@ group_least search groups group s (suc c) t f left within same =
           omega (arith, own, here))
       | inr other ↦ (let rest = group_least search groups group s c t f left (omega (arith, within, other)) same in omega (arith, rest))
     ]
+
+zero_plus : (t : ℕ) → 0 + t ≡ t
+zero_plus t = omega arith
+
+-- the first threads of a group have no more orders than all
+group_below : (search : Search) (groups : List ℕ) (group : ℕ) (s : Reached) (t more : ℕ) (f : Summand) (left : ℕ) →
+    by_group search groups group s t f left ≤ by_group search groups group s (more + t) f left
+group_below search groups group s t zero f left = rw zero_plus (omega arith)
+group_below search groups group s t (suc more) f left =
+    let rest = group_below search groups group s t more f left in
+    let next : by_group search groups group s (suc (more + t)) f left
+    ≡ by_group search groups group s (more + t) f left
+    + cond (nat_eq (slice_index groups (more + t)) group) (by_thread search s (more + t) f left) 0 = refl in
+    let place : suc (more + t) ≡ suc more + t = omega arith in
+    let grown = ap (λ (c : ℕ). by_group search groups group s c f left) place in
+    omega (arith, rest, next, grown)
+
+pub group_all : (search : Search) (groups : List ℕ) (group : ℕ) (s : Reached) (t : ℕ) (f : Summand) (left : ℕ) →
+    t < length search.program.now.threads.items → slice_index groups t ≡ group →
+    by_group search groups group s t f left + by_thread search s t f left
+    ≤ by_group search groups group s (length search.program.now.threads.items) f left
+group_all search groups group s t f left within same =
+    let count = length search.program.now.threads.items in
+    let is : nat_eq (slice_index groups t) group ≡ true = (Decides-eqb (slice_index groups t) group).1 same in
+    let own : by_group search groups group s (suc t) f left ≡ by_group search groups group s t f left + by_thread search s t f left =
+    ap (λ (b : Bool). by_group search groups group s t f left + cond b (by_thread search s t f left) 0) is in
+    let rest = group_below search groups group s (suc t) (count - suc t) f left in
+    let place = ap (λ (k : ℕ). by_group search groups group s k f left) (let p : (count - suc t) + suc t ≡ count = omega arith in p) in
+    omega (arith, own, rest, place)
+
+-- the same among the threads of the first group that has a call left
+pub first_all : (search : Search) (groups : List ℕ) (s : Reached) (u t : ℕ) (f : Summand) (left : ℕ) →
+    first_ready search.program.now s.done (length search.program.now.threads.items) ≡ Some u →
+    t < length search.program.now.threads.items → slice_index groups t ≡ slice_index groups u →
+    by_group search groups (slice_index groups u) s t f left + by_thread search s t f left ≤ reduced_from search groups s f left
+first_all search groups s u t f left first within same =
+    let all = group_all search groups (slice_index groups u) s t f left within same in
+    let here = ap (λ (o : Option ℕ). by_first search groups s o f left) first in
+    omega (arith, all, here)
+
+-- the first states have no more orders than all
+pub groups_all : (search : Search) (groups : List ℕ) (states : List Reached) (k : ℕ) (s : Reached) (f : Summand) (left : ℕ) → k < length states →
+    at states k ≡ s →
+    reduced_from_all search groups (take k states) f left + reduced_from search groups s f left ≤ reduced_from_all search groups states f left
+groups_all search groups states k s f left within is =
+    let g : Reached → ℕ = λ r. reduced_from search groups r f left in
+    let next : sum_by g (take (k + 1) states) ≡ sum_by g (take k states) + g s =
+    sum_by_more g states k nowhere within ∙ ap (λ (r : Reached). sum_by g (take k states) + g r) is in
+    let few = sum_by-take-le g states (k + 1) in
+    omega (arith, next, few)
 
 -- a state of the layer adds its part to the sum
 layer_least : (search : Search) (groups : List ℕ) (layer : List Reached) (k u t : ℕ) (f : Summand) (left : ℕ) → k < length layer →

@@ -60,7 +60,7 @@ some_call (t ∷ ts) done zero call is = call_within t.calls.items (get_or done 
 some_call (t ∷ ts) [] (suc k) call is = some_call ts [] k call is
 some_call (t ∷ ts) (d ∷ done) (suc k) call is = some_call ts done k call is
 
-one_more_within : (program : Typed) (done : List ℕ) (t : ℕ) (call : Invocation) →
+pub one_more_within : (program : Typed) (done : List ℕ) (t : ℕ) (call : Invocation) →
     length done ≡ length program.threads.items → next_call program done t ≡ Some call →
     Within done (lengths program.threads.items) → Within (one_more done t) (lengths program.threads.items)
 unfolding Within
@@ -197,7 +197,7 @@ call_left (t ∷ ts) done zero less = call_there t.calls.items (get_or done 0 0)
 call_left (t ∷ ts) [] (suc k) less = call_left ts [] k less
 call_left (t ∷ ts) (d ∷ done) (suc k) less = call_left ts done k less
 
-some_order : (program : Typed) (left : ℕ) (done : List ℕ) → length done ≡ length program.threads.items →
+pub some_order : (program : Typed) (left : ℕ) (done : List ℕ) → length done ≡ length program.threads.items →
     Within done (lengths program.threads.items) →
     sums done + left ≡ calls_together program.threads.items → (order : List ℕ) × Contains (orders_of program left done) order
 some_order program zero done long few sum = ([], (0, omega arith, refl))

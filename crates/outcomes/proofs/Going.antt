@@ -20,7 +20,7 @@ use Rattle.outcomes.specs.Working.States.{Layered, Reached, left_with, at, nowhe
 use Rattle.outcomes.specs.Working.Trails.{longer}
 use Rattle.outcomes.specs.Working.Searching.{left_after, order_at, IsGood, AreGood, weight, total, Summand, IsFound, IsAdded}
 use Rattle.outcomes.specs.Working.Steps.{IsOver, IsBack, Visits, IsAtWork, state_in, IsReached, Growth, made_by, made_below, made_from}
-use Rattle.outcomes.specs.Working.Steps.{made_from_all, GoesOn, IsStop, HasTooMany, one, start_of}
+use Rattle.outcomes.specs.Working.Steps.{made_from_all, GoesOn, IsStop, HasTooMany, WeighsAll, one, start_of}
 use Rattle.outcomes.proofs.Sums.{sum_with, sum_without, sum_more, total_found, total_added}
 use Rattle.outcomes.proofs.Full.{has_order}
 use Rattle.outcomes.proofs.Leading.{good_longer, longer_again, good_child, good_found, good_added}
@@ -195,7 +195,7 @@ times_least a zero some = absurd (omega arith)
 times_least a (suc w) some = omega arith
 
 -- a good state has at least one order
-weighs : (program : Typed) (n depth left : ℕ) (start : Left) (trail : List (List ℕ)) (s : Reached) → IsGood program n depth start trail s →
+pub weighs : (program : Typed) (n depth left : ℕ) (start : Left) (trail : List (List ℕ)) (s : Reached) → IsGood program n depth start trail s →
     depth + left ≡ calls_together program.threads.items →
     1 ≤ weight program n one left s.done s.left
 weighs program n depth left start trail s good all =
@@ -218,20 +218,20 @@ in_parts m a b x y z many first second same = omega arith
 pub many_at_step : (search : Search) (old : Work) (cells : List Value) (from : State) (t : ℕ) (call : Invocation) (outcome : Outcome) →
     IsAtWork search old → IsReached search old from → next_call search.program.now from.done.items t ≡ Some call →
     IsOver search.program.now search.turns call (state_in search from).left.cells cells outcome → search.most < orders_to old.next.states + from.orders → HasTooMany search old (made_by search from t)
-many_at_step search old cells from t call outcome work reached next over many left all =
+many_at_step search old cells from t call outcome work reached next over many f left weighty =
     let program = search.program.now in
     let n = search.turns in
     let trail' = old.trail ++ longer old.trail from.first t ∷ [] in
     let start = start_of search in
     let child = good_child program n old.depth start old.trail trail' (state_in search from) t call over.finished from.orders reached next over.over
     (subst (HasCells program) over.heap_is over.there) (subst (IsHeap program) over.heap_is over.typed) refl in
-    let here : 1 ≤ weight program n one left (one_more from.done.items t) (left_after program from.done.items t over.finished (state_in search from).left) = weighs program n (suc old.depth) left start trail' _ child all in
-    let leads : made_by search from t one left ≡ from.orders * weight program n one left (one_more from.done.items t) (left_after program from.done.items t over.finished (state_in search from).left) =
-    ap (λ (x : ℕ). from.orders * x) (sum_with program n left one from.done.items (state_in search from).left t call over.finished next over.over) in
-    let own : from.orders ≤ from.orders * weight program n one left (one_more from.done.items t) (left_after program from.done.items t over.finished (state_in search from).left) = times_least from.orders _ here in
-    let others : orders_to old.next.states ≤ total program n one left old.next.states =
-    sum_least (λ (s : Reached). weight program n one left s.done s.left) old.next.states
-    (λ k within. weighs program n (suc old.depth) left start old.trail (at old.next.states k) (work.states.each k within) all) in
+    let here : 1 ≤ weight program n f left (one_more from.done.items t) (left_after program from.done.items t over.finished (state_in search from).left) = weighty trail' _ child in
+    let leads : made_by search from t f left ≡ from.orders * weight program n f left (one_more from.done.items t) (left_after program from.done.items t over.finished (state_in search from).left) =
+    ap (λ (x : ℕ). from.orders * x) (sum_with program n left f from.done.items (state_in search from).left t call over.finished next over.over) in
+    let own : from.orders ≤ from.orders * weight program n f left (one_more from.done.items t) (left_after program from.done.items t over.finished (state_in search from).left) = times_least from.orders _ here in
+    let others : orders_to old.next.states ≤ total program n f left old.next.states =
+    sum_least (λ (s : Reached). weight program n f left s.done s.left) old.next.states
+    (λ k within. weighty old.trail (at old.next.states k) (work.states.each k within)) in
     in_parts _ _ _ _ _ _ many others own leads
 
 in_whole : (m a b c g w : ℕ) → m < a + g → a ≡ b + c → c + g ≤ w → m < b + w
@@ -240,40 +240,40 @@ in_whole m a b c g w many is few = omega arith
 -- a stop after some work
 pub stop_further : (search : Search) (old mid new : Work) (before g whole : Growth) (stop : EarlyEnd) →
     GoesOn search old mid before →
-    ((left : ℕ) → before one left + g one left ≤ whole one left) → IsStop search mid new g stop → IsStop search old new whole stop
+    ((f : Summand) (left : ℕ) → before f left + g f left ≤ whole f left) → IsStop search mid new g stop → IsStop search old new whole stop
 stop_further search old mid new before g whole TooMany goes most is =
-    λ left all. (let d : mid.depth ≡ old.depth = goes.depth in
-    in_whole _ _ _ _ _ _ (is left (omega arith)) (goes.grows one left) (most left))
+    λ f left weighty. in_whole _ _ _ _ _ _
+    (is f left (subst (λ (d : ℕ). WeighsAll search (suc d) f left) (sym goes.depth) weighty)) (goes.grows f left) (most f left)
 stop_further search old mid new before g whole (Beyond first thread) goes most is = is
 
 zero_plus : (t : ℕ) → 0 + t ≡ t
 zero_plus t = omega arith
 
 -- the first threads have no more orders than all threads
-below_least : (search : Search) (from : State) (t : ℕ) (left more : ℕ) →
-    made_below search from t one left ≤ made_below search from (more + t) one left
-below_least search from t left zero = rw zero_plus (omega arith)
-below_least search from t left (suc more) =
-    let rest = below_least search from t left more in
-    let next = below_more search from (more + t) one left in
+below_least : (search : Search) (from : State) (t : ℕ) (f : Summand) (left more : ℕ) →
+    made_below search from t f left ≤ made_below search from (more + t) f left
+below_least search from t f left zero = rw zero_plus (omega arith)
+below_least search from t f left (suc more) =
+    let rest = below_least search from t f left more in
+    let next = below_more search from (more + t) f left in
     let place : (more + t) + 1 ≡ suc more + t = omega arith in
-    let grown = ap (λ (c : ℕ). made_below search from c one left) place in
+    let grown = ap (λ (c : ℕ). made_below search from c f left) place in
     omega (arith, rest, next, grown)
 
-pub below_all : (search : Search) (from : State) (t : ℕ) (left : ℕ) → t < length search.program.now.threads.items →
-    made_below search from t one left + made_by search from t one left ≤ made_from search from one left
-below_all search from t left within =
+pub below_all : (search : Search) (from : State) (t : ℕ) (f : Summand) (left : ℕ) → t < length search.program.now.threads.items →
+    made_below search from t f left + made_by search from t f left ≤ made_from search from f left
+below_all search from t f left within =
     let count = length search.program.now.threads.items in
-    let least = below_least search from (t + 1) left (count - (t + 1)) in
+    let least = below_least search from (t + 1) f left (count - (t + 1)) in
     let place : (count - (t + 1)) + (t + 1) ≡ count = omega arith in
-    let whole = ap (λ (c : ℕ). made_below search from c one left) place in
-    let next = below_more search from t one left in
+    let whole = ap (λ (c : ℕ). made_below search from c f left) place in
+    let next = below_more search from t f left in
     omega (arith, least, whole, next)
 
-pub states_all : (search : Search) (states : List Reached) (k : ℕ) (from : State) (left : ℕ) → k < length states →
+pub states_all : (search : Search) (states : List Reached) (k : ℕ) (from : State) (f : Summand) (left : ℕ) → k < length states →
     at states k ≡ state_in search from →
-    made_from_all search (take k states) one left + made_from search from one left ≤ made_from_all search states one left
-states_all search states k from left within is =
-    let next = all_more search states k from within is one left in
-    let few = sum_by-take-le (λ (s : Reached). s.orders * weight search.program.now search.turns one (suc left) s.done s.left) states (k + 1) in
+    made_from_all search (take k states) f left + made_from search from f left ≤ made_from_all search states f left
+states_all search states k from f left within is =
+    let next = all_more search states k from within is f left in
+    let few = sum_by-take-le (λ (s : Reached). s.orders * weight search.program.now search.turns f (suc left) s.done s.left) states (k + 1) in
     omega (arith, next, few)

@@ -14,6 +14,7 @@ pub mod Listed
 pub mod Lists
 pub mod Marked
 pub mod OrderParts
+pub mod Remaining
 pub mod SeenEnds
 pub mod Sums
 pub mod TableLemmas

@@ -32,6 +32,7 @@ use Rattle.outcomes.specs.Working.Steps.{start_of, IsEnd, AreEnds, AreEndsOfStat
 use Rattle.outcomes.proofs.ChangeLemmas.{value_is, value_same}
 use Rattle.outcomes.proofs.Leading.{leads_in_order, leads_serially, leads_made}
 use Rattle.outcomes.proofs.Full.{full, leads_done}
+use Rattle.outcomes.proofs.Going.{weighs}
 use Rattle.outcomes.specs.Theory.Done.{lengths}
 
 -- ---- the beginning
@@ -468,7 +469,8 @@ too_many search old layer calls depth many empty deep below all sums =
     let n = search.turns in
     let left = calls - (depth + 1) in
     let fit : suc old.depth + left ≡ calls_together program.threads.items = omega arith in
-    let more : search.most < total program n one left old.next.states + total program n one (suc left) layer = many left fit in
+    let more : search.most < total program n one left old.next.states + total program n one (suc left) layer =
+    many one left (λ trail s good. weighs program n (suc old.depth) left (start_of search) trail s good fit) in
     let none : total program n one left old.next.states ≡ 0 = ap (total program n one left) empty in
     let same : total program n one (suc left) layer ≡ weight program n one calls (none_done program) (start_of search) =
     ap (λ (k : ℕ). total program n one k layer) (one_left calls depth below) ∙ sums one in

@@ -6,8 +6,8 @@ ghost use Rattle.core_lang.specs.Typing.{HasCells};
 ghost use Rattle.core_lang.specs.WellFormed.{calls_together};
 ghost use Rattle.outcomes.specs.Commuting.{AreIndependent};
 ghost use Rattle.outcomes.specs.Ends.{told_of};
-ghost use Rattle.outcomes.specs.Working.Steps.{CanSearch, IsAtWork, IsReached, AreReached, state_in};
-ghost use Rattle.outcomes.specs.Working.Reducing.{first_ready, ReducesBy, reduced_from, reduced_from_all, FindsIfAny};
+ghost use Rattle.outcomes.specs.Working.Steps.{CanSearch, IsAtWork, IsReached, AreReached, Steps, state_in};
+ghost use Rattle.outcomes.specs.Working.Reducing.{first_ready, reduced_from, reduced_from_all, FindsOrLeavesMore};
 
 use crate::layer::Layer;
 use crate::outcome::Found;
@@ -48,7 +48,7 @@ impl Search<'_> {
         requires from { IsReached self.now work.old from.now }
         requires groups { length groups.now ≡ length self.now.program.now.threads.items }
         ensures { IfOk result
-            (ReducesBy self.now work.old work.new (reduced_from self.now groups.now (state_in self.now from.now))) }
+            (Steps self.now work.old work.new (reduced_from self.now groups.now (state_in self.now from.now))) }
     {
         let Some(first) = self.first_ready(&from.done) else {
             return Ok(None);
@@ -79,7 +79,7 @@ impl Search<'_> {
         requires layer { AreReached self.now work.old layer.now.states }
         requires groups { length groups.now ≡ length self.now.program.now.threads.items }
         ensures { IfOk result
-            (ReducesBy self.now work.old work.new (reduced_from_all self.now groups.now layer.now.states)) }
+            (Steps self.now work.old work.new (reduced_from_all self.now groups.now layer.now.states)) }
     {
         for number in 0..layer.len() {
             if let Some(stop) = self.expand_group(alloc, work, layer.get(number), groups)? {
@@ -90,7 +90,7 @@ impl Search<'_> {
     }
 
     /// The ends of all orders, found by the orders in which each group's calls come before the next group's, or an
-    /// unsettled call. `None` means that these are more than the limit.
+    /// unsettled call. `None` means that these orders are more than the limit.
     ///
     /// # Errors
     ///
@@ -98,7 +98,7 @@ impl Search<'_> {
     pub(crate) fn reduced(&self, alloc: Global, groups: &[usize]) -> Result<Option<Found>, NoMemory>
         requires search { CanSearch self.now }
         requires groups { AreIndependent self.now.program.now groups.now }
-        ensures { IfOk result (FindsIfAny self.now) }
+        ensures { IfOk result (FindsOrLeavesMore self.now groups.now) }
     {
         laws::whole_within_some_turns();
         laws::settled_are_serial();

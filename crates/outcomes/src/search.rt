@@ -7,7 +7,7 @@ ghost use Rattle.core_lang.specs.Serial.{invocation, opening_heap};
 ghost use Rattle.core_lang.specs.Typing.{IsHeap, HasCells};
 ghost use Rattle.core_lang.specs.WellFormed.{CanCall, calls_together};
 ghost use Rattle.outcomes.specs.Working.States.{orders_to};
-ghost use Rattle.outcomes.specs.Orders.{next_call, call_number};
+ghost use Rattle.outcomes.specs.Orders.{next_call, call_number, orders};
 ghost use Rattle.outcomes.specs.Working.Drawing.{calls_of_thread};
 ghost use Rattle.outcomes.specs.Working.Steps.{CanSearch, FindsOrHasMore, Leaves, Puts, Visits, left_by, state_in, IsNext};
 ghost use Rattle.outcomes.specs.Working.Steps.{IsAtWork, IsReached, AreReached, Steps, made_by, made_from, made_from_all, opening_state, FirstsAre};
@@ -15,9 +15,11 @@ ghost use Rattle.outcomes.specs.Ends.{Finds, told_of, no_answers, answered};
 ghost use Rattle.outcomes.specs.Working.Searching.{as_told};
 ghost use Rattle.outcomes.specs.Working.Changes.{AreChanges, changes_of};
 ghost use Rattle.meaning.specs.Working.Undo.{undone};
-ghost use Rattle.outcomes.specs.Working.Reducing.{FindsIfAny};
+ghost use Rattle.outcomes.specs.Commuting.{AreIndependent};
+ghost use Rattle.outcomes.specs.Working.Reducing.{FindsOrLeavesMore, IsOneGroup};
 
 use crate::changes::{Writes, cells_of, make_changes};
+use crate::groups::groups;
 use crate::layer::{Layer, Place};
 use crate::outcome::{Asked, FinalState, Found};
 use crate::state::{Change, State};
@@ -292,11 +294,15 @@ impl Search<'_> {
 }
 
 /// Whether all groups are equal.
-fn are_one(groups: &[usize]) -> bool {
-    match groups.first() {
-        Some(first) => groups.iter().all(|group| group == first),
-        None => true,
+fn are_one(groups: &[usize]) -> bool
+    ensures { IsTrue result → IsOneGroup groups.now }
+{
+    for thread in 0..groups.len() {
+        if groups[thread] != groups[0] {
+            return false;
+        }
     }
+    true
 }
 
 /// The outcomes with that of call `number`; unchanged, if they have no place for it.
@@ -445,15 +451,16 @@ impl Search<'_> {
     /// more than the limit.
     ///
     /// If all threads are in one group, these are all orders, which are more than the limit.
-    fn by_groups(&self, alloc: Global) -> Result<Option<Found>, NoMemory>
-        requires { CanSearch self.now }
-        ensures { IfOk result (FindsIfAny self.now) }
+    fn by_groups(&self, alloc: Global, groups: &[usize]) -> Result<Option<Found>, NoMemory>
+        requires search { CanSearch self.now }
+        requires groups { AreIndependent self.now.program.now groups.now }
+        requires more { self.now.most < length (orders self.now.program.now) }
+        ensures { IfOk result (FindsOrLeavesMore self.now groups.now) }
     {
-        let groups = crate::groups::groups(alloc, self.program, self.prepared.written())?;
-        if are_one(&groups) {
+        if are_one(groups) {
             return Ok(None);
         }
-        self.reduced(alloc, &groups)
+        self.reduced(alloc, groups)
     }
 
     /// The ends of all orders, if all of them, or some that stand for all, are within the limit. Otherwise the ends of
@@ -473,7 +480,8 @@ impl Search<'_> {
         if let Some(found) = self.all(alloc)? {
             return Ok(found);
         }
-        match self.by_groups(alloc)? {
+        let groups = groups(alloc, self.program, self.prepared.written())?;
+        match self.by_groups(alloc, &groups)? {
             Some(found) => Ok(found),
             None => self.drawn(alloc, seed),
         }

@@ -1,18 +1,16 @@
 -- The effects of the functions of a search over some orders. Nobody has to believe this file.
-use Rattle.std.specs.Prelude.{ℕ, ◌+◌, ◌*◌, ◌<◌, zero, suc, nat_eq, if◌then◌else◌, List, length, slice_index, sum_by}
-use Rattle.std.specs.Prelude.{Option, Some, None, ⊤}
+use Rattle.std.specs.Prelude.{◌≡◌, ℕ, ◌+◌, ◌*◌, ◌<◌, zero, suc, nat_eq, if◌then◌else◌, List, [], ◌∷◌, ◌++◌, length, slice_index}
+use Rattle.std.specs.Prelude.{sum_by, Option, Some, None}
 use Rattle.core_lang.specs.declared.typed.Typed.{Typed}
 use Rattle.core_lang.specs.Serial.{Invocation}
 use Rattle.outcomes.specs.declared.search.Search.{Search}
-use Rattle.outcomes.specs.declared.search.EarlyEnd.{EarlyEnd}
-use Rattle.outcomes.specs.declared.search.EarlyEnd.TheVariants.{TooMany, Beyond}
-use Rattle.outcomes.specs.declared.search.Work.{Work}
 use Rattle.outcomes.specs.declared.outcome.Found.{Found}
+use Rattle.core_lang.specs.WellFormed.{calls_together}
 use Rattle.outcomes.specs.Orders.{next_call, one_more, orders, orders_of, begun_with, none_done}
 use Rattle.outcomes.specs.Ends.{Finds, Left}
 use Rattle.outcomes.specs.Working.States.{Reached, at}
-use Rattle.outcomes.specs.Working.Searching.{Leads, order_at, sum_over}
-use Rattle.outcomes.specs.Working.Steps.{Growth, GoesOn, IsBeyond, start_of}
+use Rattle.outcomes.specs.Working.Searching.{Leads, sum_over, Summand}
+use Rattle.outcomes.specs.Working.Steps.{Growth, start_of}
 use Rattle.std.specs.List.{Contains}
 
 -- the earlier thread, if there is one; otherwise this thread, if it has a call
@@ -53,17 +51,45 @@ reduced_from search groups s f left =
 abbrev pub reduced_from_all : Search → List ℕ → List Reached → Growth
 reduced_from_all search groups states f left = sum_by (λ (s : Reached). reduced_from search groups s f left) states
 
--- the work went on, or a call is not settled by the turns. Nothing is claimed if the orders are more than the limit
-abbrev pub ReducesBy : Search → Work → Work → Growth → Option EarlyEnd → Type 0
-ReducesBy search old new growth None = GoesOn search old new growth
-ReducesBy search old new growth (Some TooMany) = ⊤
-ReducesBy search old new growth (Some (Beyond first thread)) =
-    (first < length new.trail) × IsBeyond search.program.now search.turns (start_of search) (order_at new.trail first) thread
+-- ---- the orders that the groups leave
 
--- the result, if there is one
-abbrev pub FindsIfAny : Search → Option Found → Type 0
-FindsIfAny search None = ⊤
-FindsIfAny search (Some found) = Finds search.program.now search.turns search.most search.asked.now found
+-- the orders that begin with one of the first `t` threads, if it is of the group; `following` gives the orders after
+-- the first call
+abbrev pub begun_in : Typed → List ℕ → ℕ → (List ℕ → List (List ℕ)) → List ℕ → ℕ → List (List ℕ)
+begun_in program groups group following done zero = []
+begun_in program groups group following done (suc t) =
+    begun_in program groups group following done t
+    ++ (if nat_eq (slice_index groups t) group then begun_with (next_call program done t) t (following (one_more done t)) else [])
+
+-- the orders that begin with a thread of the group of this thread
+abbrev pub begun_first : Typed → List ℕ → (List ℕ → List (List ℕ)) → List ℕ → Option ℕ → List (List ℕ)
+begun_first program groups following done None = []
+begun_first program groups following done (Some t) =
+    begun_in program groups (slice_index groups t) following done (length program.threads.items)
+
+-- the orders of n further calls, each of which is of the first group that has a call left
+abbrev pub orders_left : Typed → List ℕ → ℕ → List ℕ → List (List ℕ)
+orders_left program groups zero done = [] ∷ []
+orders_left program groups (suc n) done =
+    begun_first program groups (orders_left program groups n) done (first_ready program done (length program.threads.items))
+
+-- the orders of all calls, each of which is of the first group that has a call left
+abbrev pub grouped_orders : Typed → List ℕ → List (List ℕ)
+grouped_orders program groups =
+    orders_left program groups (calls_together program.threads.items) (none_done program)
+
+-- the summand that counts the orders which the groups leave
+abbrev pub left_over : Typed → List ℕ → ℕ → Summand
+left_over program groups n done end = length (orders_left program groups n done)
+
+-- the result; none, if the orders that the groups leave are more than the limit
+abbrev pub FindsOrLeavesMore : Search → List ℕ → Option Found → Type 0
+FindsOrLeavesMore search groups None = search.most < length (grouped_orders search.program.now groups)
+FindsOrLeavesMore search groups (Some found) = Finds search.program.now search.turns search.most search.asked.now found
+
+-- all threads are in one group
+abbrev pub IsOneGroup : List ℕ → Type 0
+IsOneGroup groups = (t u : ℕ) → t < length groups → u < length groups → slice_index groups t ≡ slice_index groups u
 
 -- ---- orders through some states
 

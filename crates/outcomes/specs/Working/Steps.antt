@@ -1,5 +1,5 @@
 -- The effects of the functions of a search. Nobody has to believe this file.
-use Rattle.std.specs.Prelude.{◌≡◌, ℕ, ◌+◌, ◌*◌, ◌^◌, ◌<◌, suc, List, length, slice_index, ◌⊎◌, Option, Some}
+use Rattle.std.specs.Prelude.{◌≡◌, ℕ, ◌+◌, ◌*◌, ◌^◌, ◌<◌, ◌≤◌, suc, List, length, slice_index, ◌⊎◌, Option, Some}
 use Rattle.std.specs.Prelude.{None, [], ◌∷◌, ◌++◌, slice_set, map, sum_by}
 use Rattle.core_lang.specs.declared.value.Value.{Value}
 use Rattle.core_lang.specs.declared.value.Outcome.{Outcome}
@@ -25,7 +25,7 @@ use Rattle.outcomes.specs.Ends.{Finds}
 use Rattle.outcomes.specs.Working.Changes.{applied}
 use Rattle.outcomes.specs.Working.States.{Layered, Reached, left_with, at, reached_of, with_more, IsAlike, NoneIsAlike}
 use Rattle.outcomes.specs.Working.Trails.{IsLonger}
-use Rattle.outcomes.specs.Working.Searching.{Leads, order_at, IsGood, AreGood, sum_over, total, IsFound, IsAdded}
+use Rattle.outcomes.specs.Working.Searching.{Leads, order_at, IsGood, AreGood, sum_over, weight, total, IsFound, IsAdded}
 use Rattle.outcomes.specs.Working.Searching.{Summand, AreApart, as_told}
 
 -- the program was accepted, and the prepared program is the same
@@ -150,11 +150,17 @@ pub record IsBeyond (program : Typed) (n : ℕ) (start : Left) (order : List ℕ
 abbrev pub one : Summand
 one done end = 1
 
--- the program has more orders than the limit
+-- each state to which this many calls lead weighs at least one
+abbrev pub WeighsAll : Search → ℕ → Summand → ℕ → Type 0
+WeighsAll search depth f left =
+    (trail : List (List ℕ)) (s : Reached) → IsGood search.program.now search.turns depth (start_of search) trail s →
+    1 ≤ weight search.program.now search.turns f left s.done s.left
+
+-- each sum in which every state of the layer weighs at least one is more than the limit: such sums count orders
 abbrev pub HasTooMany : Search → Work → Growth → Type 0
 HasTooMany search old growth =
-    (left : ℕ) → suc old.depth + left ≡ calls_together search.program.now.threads.items →
-    search.most < total search.program.now search.turns one left old.next.states + growth one left
+    (f : Summand) (left : ℕ) → WeighsAll search (suc old.depth) f left →
+    search.most < total search.program.now search.turns f left old.next.states + growth f left
 
 abbrev pub IsStop : Search → Work → Work → Growth → EarlyEnd → Type 0
 IsStop search old new growth TooMany = HasTooMany search old growth

@@ -36,5 +36,5 @@ pub returns-in-Some : goal.returns-in-Some
 returns-in-Some c =
     stop_further c.args.self.now c.args.work.now c.loop-thread.work c.step.new.work (made_below c.args.self.now c.args.from.now c.loop-thread.thread)
     (made_by c.args.self.now c.args.from.now c.loop-thread.thread) (made_from c.args.self.now c.args.from.now) c.in-Some.stop
-    c.loop-thread.invariant.goes (λ left. below_all c.args.self.now c.args.from.now c.loop-thread.thread left (omega (arith, c.loop-thread-test.true, c.len-thread-end.ensures)))
+    c.loop-thread.invariant.goes (λ f left. below_all c.args.self.now c.args.from.now c.loop-thread.thread f left (omega (arith, c.loop-thread-test.true, c.len-thread-end.ensures)))
     (rw c.in-Some.is at c.in_ok-stop.ensures.steps)

@@ -17,5 +17,5 @@ returns-in-Some c =
     stop_further c.args.self.now c.args.work.now c.loop-number.work c.expand.new.work (made_from_all c.args.self.now (take c.loop-number.number c.args.layer.now.states))
     (made_from c.args.self.now c.get.result.now) (made_from_all c.args.self.now c.args.layer.now.states) c.in-Some.stop
     c.loop-number.invariant
-    (λ left. states_all c.args.self.now c.args.layer.now.states c.loop-number.number c.get.result.now left (omega (arith, c.loop-number-test.true, c.len-number-end.ensures)) (c.get.ensures.one ∙ ap (λ (o : List Value). reached_of o c.get.result.now) c.requires.opening))
+    (λ f left. states_all c.args.self.now c.args.layer.now.states c.loop-number.number c.get.result.now f left (omega (arith, c.loop-number-test.true, c.len-number-end.ensures)) (c.get.ensures.one ∙ ap (λ (o : List Value). reached_of o c.get.result.now) c.requires.opening))
     (rw c.in-Some.is at c.in_ok-stop.ensures)

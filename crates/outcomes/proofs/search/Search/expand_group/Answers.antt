@@ -1,11 +1,11 @@
-use Rattle.std.proofs.Common.{◌∙◌, ◌+◌, length, ap, sym, subst, refl, arith}
+use Rattle.std.proofs.Common.{◌≡◌, ◌∙◌, ◌+◌, ℕ, List, length, Some, ap, sym, subst, refl, arith}
 use Rattle.std.specs.Prelude.{slice_index}
 use Rattle.outcomes.specs.declared.search.Work.{Work}
 use Rattle.outcomes.specs.Working.Changes.{applied}
 use Rattle.outcomes.specs.Working.Steps.{GoesOn, state_in}
-use Rattle.outcomes.specs.Working.Reducing.{by_group}
-use Rattle.outcomes.proofs.Going.{goes_visited, reached_still}
-use Rattle.outcomes.proofs.Covering.{ready_is, group_more, group_past}
+use Rattle.outcomes.specs.Working.Reducing.{first_ready, by_group, by_thread, reduced_from}
+use Rattle.outcomes.proofs.Going.{goes_visited, reached_still, stop_further}
+use Rattle.outcomes.proofs.Covering.{ready_is, group_more, group_past, first_all}
 use Rattle.outcomes.proofs.search.Search.expand_group.Goals as goal
 use Rattle.outcomes.proofs.search.Search.expand_group.Goals.{then-groups-thread+in_ok-stop+in_default-2, else-groups-thread}
 
@@ -65,3 +65,18 @@ loop-thread-preserved c =
         there = ap (λ (x : Work). x.heap) w.work-is ∙ c.loop-thread.invariant.there;
       }
     ]
+
+pub returns-in-Some-2 : goal.returns-in-Some-2
+returns-in-Some-2 c =
+    let groups = c.args.groups.now in
+    let search = c.args.self.now in
+    let program = search.program.now in
+    let s = state_in search c.args.from.now in
+    let t = c.loop-thread.thread in
+    let u = c.in-Some.first in
+    let ready : first_ready program s.done (length program.threads.items) ≡ Some u =
+    ap (λ (d : List ℕ). first_ready program d (length program.threads.items)) (sym c.deref.ensures.value) ∙ sym c.first_ready.ensures ∙ c.in-Some.is in
+    stop_further search c.args.work.now c.loop-thread.work c.step.new.work (by_group search groups (slice_index groups u) s t)
+    (by_thread search s t) (reduced_from search groups s) c.in-Some-2.stop c.loop-thread.invariant.goes
+    (λ f left. first_all search groups s u t f left ready (omega (arith, c.loop-thread-test.true, c.len-thread-end.ensures)) c.if-groups-thread.true)
+    (rw c.in-Some-2.is at c.in_ok-stop.ensures.steps)

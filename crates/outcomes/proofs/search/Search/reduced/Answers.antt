@@ -11,6 +11,7 @@ use Rattle.outcomes.specs.Working.Reducing.{reduced_from_all, Covers}
 use Rattle.outcomes.proofs.Whole.{good_at_first, good_of_more, stops_after}
 use Rattle.outcomes.proofs.Configurations.{configuration_of, none_led, led_more, has_some_places, before_more}
 use Rattle.outcomes.proofs.Covering.{covers_first, covers_more, are_ends_of_all}
+use Rattle.outcomes.proofs.Remaining.{counts_first, counts_more, leaves_more}
 use Rattle.outcomes.proofs.search.Search.reduced.Goals as goal
 
 none_off : (k : ℕ) → k ≡ k - 0
@@ -26,6 +27,7 @@ loop-depth-init c =
       empty = c.new-2.ensures.states;
       opening = search rules;
       layer = good_at_first c.args.self.now c.new-3.result c.in_ok-layer.layer.states c.requires.search.checked c.new-3.ensures c.in_ok-layer.ensures.states;
+      counts = counts_first c.args.self.now c.args.groups.now c.in_ok-layer.layer.states c.in_ok-layer.ensures.states;
       covers = subst (λ (left : ℕ). Covers c.args.self.now left c.in_ok-layer.layer.states) (none_off (calls_together c.args.self.now.program.now.threads.items))
           (covers_first c.args.self.now c.in_ok-layer.layer.states c.in_ok-layer.ensures.states);
       before = (
@@ -41,6 +43,13 @@ returns-in-Some-Beyond c =
     rw c.in_ok-order-in-Some-Beyond.ensures
     (stops_after c.whole_within_some_turns.ensures.over c.args.self.now.program.now c.args.self.now.turns c.args.self.now.asked.now.answers
     (order_at c.expand_groups.new.work.trail c.in-Some-Beyond.first) c.in-Some-Beyond.thread there.1)
+
+pub returns-in-Some-TooMany : goal.returns-in-Some-TooMany
+returns-in-Some-TooMany c =
+    let many = rw (c.in-Some-TooMany.is, c.in-Some-TooMany.field-0-is) at c.in_ok-expand_groups.ensures in
+    let old : Work = record c.loop-depth.work { depth = c.loop-depth.depth } in
+    leaves_more c.args.self.now c.args.groups.now old c.loop-depth.layer.states c.calls-calls.result c.loop-depth.depth many
+    c.loop-depth.invariant.empty refl c.loop-depth-test.true c.calls-calls.ensures c.loop-depth.invariant.counts
 
 one_off : (all calls depth : ℕ) → calls ≡ all → depth < calls → all - depth ≡ suc (all - (depth + 1))
 one_off all calls depth is below = omega (arith, is, below)
@@ -65,6 +74,8 @@ loop-depth-preserved c =
       empty = ap (λ (l : Layered). l.states) c.replace-layer.ensures.after ∙ c.new-in-loop-depth.ensures.states;
       opening = rw c.replace-layer.ensures.value goes.work.back.opening;
       layer = rw c.replace-layer.ensures.value (good_of_more searched old c.expand_groups.new.work growth depth goes refl);
+      counts = rw c.replace-layer.ensures.value
+          (counts_more searched c.args.groups.now old c.expand_groups.new.work c.loop-depth.layer.states depth goes c.loop-depth.invariant.empty c.loop-depth.invariant.counts);
       covers = rw c.replace-layer.ensures.value
           (covers_more searched c.args.groups.now old c.expand_groups.new.work c.loop-depth.work.trail c.loop-depth.layer.states depth (all - (depth + 1))
           c.requires.groups goes c.loop-depth.invariant.empty c.loop-depth.invariant.layer
