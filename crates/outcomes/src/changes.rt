@@ -51,21 +51,27 @@ impl Writes<'_> {
         Ok(cells)
     }
 
-    /// The changes of the cells, whose present values are `now`.
+    /// The changes of the cells, whose present values are `now`, in the memory of `memory`.
     ///
     /// # Errors
     ///
     /// Out of memory.
-    pub(crate) fn changes(&self, alloc: Global, now: &[Value]) -> Result<Vec<Change>, AllocError>
+    pub(crate) fn changes(
+        &self,
+        alloc: Global,
+        memory: Vec<Change>,
+        now: &[Value],
+    ) -> Result<Vec<Change>, AllocError>
         requires long { length now.now ≡ length self.now.opening.now }
         requires writes { undone self.now.first.now (undone self.now.then.now now.now) ≡ self.now.opening.now }
         ensures { IfOk result (λ changes. changes.items ≡ changes_of self.now.opening.now now.now) }
     {
         if now.len() <= FEW_CELLS || now.len() <= self.first.len() {
-            return all_changes(alloc, self.opening, now);
+            return all_changes(memory, self.opening, now);
         }
         let cells = self.cells(alloc)?;
-        let mut changes = Vec::with_capacity(alloc, cells.len())?;
+        let mut changes = memory;
+        changes.clear();
         let mut below = 0;
         for cell in &cells {
             let cell = *cell;
@@ -96,21 +102,21 @@ fn note_change(
     Ok(())
 }
 
-/// The changes of the cells, found by comparing all of them.
+/// The changes of the cells, found by comparing all of them, in the memory of `memory`.
 ///
 /// # Errors
 ///
 /// Out of memory.
 pub(crate) fn all_changes(
-    alloc: Global,
+    memory: Vec<Change>,
     opening: &[Value],
     now: &[Value],
 ) -> Result<Vec<Change>, AllocError>
     requires { length now.now ≡ length opening.now }
     ensures { IfOk result (λ changes. changes.items ≡ changes_of opening.now now.now) }
 {
-    // Mostly few cells are changed.
-    let mut changes = Vec::with_capacity(alloc, 1)?;
+    let mut changes = memory;
+    changes.clear();
     for cell in 0..opening.len() {
         note_change(&mut changes, opening, now, cell)?;
     }

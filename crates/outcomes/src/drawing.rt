@@ -172,7 +172,7 @@ impl Drawing<'_> {
             first: &self.walk.overwritten,
             then: &[],
         };
-        let changes = writes.changes(alloc, cells)?;
+        let changes = writes.changes(alloc, Vec::new(alloc), cells)?;
         seen_changes(alloc, asked, self.ends.opening(), cells, changes)
     }
 

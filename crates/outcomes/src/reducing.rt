@@ -112,6 +112,8 @@ impl Search<'_> {
             next: Layer::new(alloc, self.hashing, &opening),
             trail: Trail::new(alloc),
             depth: 0,
+            done: Vec::new(alloc),
+            changed: Vec::new(alloc),
         };
         let calls = self.calls();
         for depth in 0..calls {

@@ -62,6 +62,9 @@ pub(crate) struct Work<'a> {
     pub(crate) trail: Trail,
     // The number of calls that lead to a state of the layer before.
     pub(crate) depth: usize,
+    // Memory for the parts of the next state. Its content does not matter.
+    pub(crate) done: Vec<usize>,
+    pub(crate) changed: Vec<Change>,
 }
 
 /// The state that a call leaves.
@@ -123,8 +126,13 @@ impl Work<'_> {
         Ok(())
     }
 
-    /// The changes of the cells after a run that overwrote `then`.
-    fn changes(&self, alloc: Global, then: &[(usize, Value)]) -> Result<Vec<Change>, AllocError>
+    /// The changes of the cells after a run that overwrote `then`, in the memory of `memory`.
+    fn changes(
+        &self,
+        alloc: Global,
+        memory: Vec<Change>,
+        then: &[(usize, Value)],
+    ) -> Result<Vec<Change>, AllocError>
         requires long { length self.now.heap ≡ length self.now.next.opening }
         requires writes { undone self.now.overwritten.items (undone then.now self.now.heap) ≡ self.now.next.opening }
         ensures { IfOk result (λ changes. changes.items ≡ changes_of self.now.next.opening self.now.heap) }
@@ -134,11 +142,17 @@ impl Work<'_> {
             first: &self.overwritten,
             then,
         };
-        writes.changes(alloc, self.heap.cells())
+        writes.changes(alloc, memory, self.heap.cells())
     }
 
     /// Adds the state after a call of `thread` to the layer that is made.
-    fn put(&mut self, from: &State, thread: usize, after: After) -> Result<(), NoMemory>
+    fn put(
+        &mut self,
+        alloc: Global,
+        from: &State,
+        thread: usize,
+        after: After,
+    ) -> Result<(), NoMemory>
         requires thread { thread < length from.now.done.items }
         requires short { slice_index from.now.done.items thread + 1 < 2 ^ 64 }
         requires first { from.now.first < length self.old.trail }
@@ -147,15 +161,20 @@ impl Work<'_> {
         ensures { OnOk result (Puts self.old self.new from.now thread (left_by self.old.next.opening after)) }
     {
         let After { changes, answers } = after;
-        let mut done = from.done.clone()?;
+        let mut done = mem::replace(&mut self.done, Vec::new(alloc));
+        done.clear();
+        done.extend_from_slice(&from.done)?;
         done[thread] += 1;
-        match self.next.place(&done, &changes, &answers) {
+        let place = self.next.place(&done, &changes, &answers);
+        self.done = done;
+        self.changed = changes;
+        match place {
             Place::Found(number) => self.next.add_orders(number, from.orders),
             Place::Free(key) => {
                 let first = self.trail.extend(from.first, thread)?;
                 let state = State {
-                    done,
-                    changes,
+                    done: Vec::from_slice(alloc, &self.done)?,
+                    changes: Vec::from_slice(alloc, &self.changed)?,
                     answers,
                     orders: from.orders,
                     first,
@@ -237,7 +256,8 @@ impl Search<'_> {
         if !self.has_room(work.next.orders(), from.orders) {
             return Ok(Some(EarlyEnd::TooMany));
         }
-        let changes = work.changes(alloc, &end.overwritten)?;
+        let memory = mem::replace(&mut work.changed, Vec::new(alloc));
+        let changes = work.changes(alloc, memory, &end.overwritten)?;
         let End {
             outcome,
             overwritten,
@@ -246,7 +266,7 @@ impl Search<'_> {
         work.heap.take_back(alloc, overwritten);
         let number = self.call_number(thread, from.done[thread]);
         let answers = answered(alloc, &from.answers, number, outcome)?;
-        work.put(from, thread, After { changes, answers })?;
+        work.put(alloc, from, thread, After { changes, answers })?;
         Ok(None)
     }
 
@@ -318,6 +338,9 @@ pub(crate) fn answered(
 ) -> Result<Vec<Option<value::Outcome>>, AllocError>
     ensures { IfOk result (λ after. after.items ≡ slice_set answers.now number (Some outcome)) }
 {
+    if answers.is_empty() {
+        return Ok(Vec::new(alloc));
+    }
     let mut after = Vec::from_slice(alloc, answers)?;
     if number < after.len() {
         after[number] = Some(outcome);
@@ -425,6 +448,8 @@ impl Search<'_> {
             next: Layer::new(alloc, self.hashing, &opening),
             trail: Trail::new(alloc),
             depth: 0,
+            done: Vec::new(alloc),
+            changed: Vec::new(alloc),
         };
         let calls = self.calls();
         for depth in 0..calls {

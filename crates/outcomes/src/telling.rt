@@ -70,7 +70,7 @@ pub(crate) fn seen_changes(
         Cells::Every => Ok(changes),
         Cells::These(_) => {
             let seen = seen_cells(alloc, asked, cells)?;
-            all_changes(alloc, opening, &seen)
+            all_changes(Vec::new(alloc), opening, &seen)
         }
     }
 }

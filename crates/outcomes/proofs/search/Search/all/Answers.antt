@@ -41,7 +41,7 @@ returns-in-Some-Beyond c =
 pub returns-in-Some-TooMany : goal.returns-in-Some-TooMany
 returns-in-Some-TooMany c =
     let many = rw (c.in-Some-TooMany.is, c.in-Some-TooMany.field-0-is) at c.in_ok-expand_all.ensures in
-    let old : Work = record { heap = c.loop-depth.work.heap; overwritten = c.loop-depth.work.overwritten; next = c.loop-depth.work.next; trail = c.loop-depth.work.trail; depth = c.loop-depth.depth } in
+    let old : Work = record c.loop-depth.work { depth = c.loop-depth.depth } in
     too_many c.args.self.now old c.loop-depth.layer.states c.calls-calls.result c.loop-depth.depth many c.loop-depth.invariant.empty refl c.loop-depth-test.true
     c.calls-calls.ensures
     (λ f. c.loop-depth.invariant.sums f (c.calls-calls.result - c.loop-depth.depth)
@@ -51,7 +51,7 @@ returns-in-Some-TooMany c =
 pub loop-depth-preserved : goal.loop-depth-preserved
 loop-depth-preserved c =
     let goes = rw c.in-None.is at c.in_ok-expand_all.ensures in
-    let old : Work = record { heap = c.loop-depth.work.heap; overwritten = c.loop-depth.work.overwritten; next = c.loop-depth.work.next; trail = c.loop-depth.work.trail; depth = c.loop-depth.depth } in
+    let old : Work = record c.loop-depth.work { depth = c.loop-depth.depth } in
     record {
       back = record {
         opening = ap (λ (l : Layered). l.opening) c.replace-layer.ensures.after ∙ (let same : c.new-in-loop-depth.result.opening ≡ opening_heap c.args.self.now.program.now = search rules in same);

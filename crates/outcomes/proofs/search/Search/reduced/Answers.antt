@@ -64,7 +64,7 @@ loop-depth-preserved c =
     let all = calls_together program.threads.items in
     let depth = c.loop-depth.depth in
     let goes = rw c.in-None.is at c.in_ok-expand_groups.ensures in
-    let old : Work = record { heap = c.loop-depth.work.heap; overwritten = c.loop-depth.work.overwritten; next = c.loop-depth.work.next; trail = c.loop-depth.work.trail; depth = depth } in
+    let old : Work = record c.loop-depth.work { depth = depth } in
     let growth = reduced_from_all searched c.args.groups.now c.loop-depth.layer.states in
     record {
       back = record {
