@@ -107,8 +107,9 @@ tell_alike : (t u : List ℕ) (code : Code) (at : ℕ) (notes : List Note) → I
     AreTextNotes t code at notes → AreTextNotes u code at notes
 tell_alike t u code at notes long longer are = record {
   are_true = All-weaker (IsTrueTextNote t code at) (IsTrueTextNote u code at) (λ note is. true_alike long longer is) notes are.are_true;
+  single = are.single;
   told = λ tokens decls few has told. absurd (omega arith);
-  expected = λ tokens few has unexpected told. absurd (omega arith);
+  each_once = λ tokens unexpected few has. absurd (omega arith);
   advised = λ tokens note few has unexpected first. absurd (omega arith);
   marked = λ mark. absurd (omega (arith, mark.few));
   limited = λ words is limit. are.limited words is (limit_alike longer long limit);

@@ -233,7 +233,8 @@ IsTold tokens decls InitOutOfRangeOrRepeated at = IsGivenAgain decls at
 IsTold tokens decls MisplacedReturn at = Unit {0}
 IsTold tokens decls code at = ⊥
 
--- the notes are true, and there is one where one is required
+-- the notes are true, at most one is given, and there is one where one is required
 pub record AreNotes (tokens : List Tok) (decls : List Decl) (code : Code) (at : ℕ) (notes : List Note) : Type 0 where
   pub are_true : All (IsTrueNote tokens decls code at) notes
+  pub single : length notes ≤ 1
   pub told : IsTold tokens decls code at → 1 ≤ length notes

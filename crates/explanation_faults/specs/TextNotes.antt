@@ -1,9 +1,9 @@
 -- The notes on a fault of a text.
 use Rattle.std.specs.List.{starts_with}
-use Rattle.std.specs.Prelude.{◌≡◌, ◌<◌, ◌≤◌, ℕ, Bool, true, ◌||◌, nat_eq, List, [], ◌∷◌, All, codes, length, slice_get, Some}
+use Rattle.std.specs.Prelude.{◌≡◌, ◌<◌, ◌≤◌, ℕ, Bool, true, ◌||◌, nat_eq, List, [], ◌∷◌, ◌++◌, All, codes, length, slice_get, Some}
 use Rattle.explanation.specs.Notes.{Note}
 use Rattle.source.specs.declared.fault.Code.{Code}
-use Rattle.source.specs.declared.fault.Code.TheVariants.{BadCharacter, LimitExceeded}
+use Rattle.source.specs.declared.fault.Code.TheVariants.{BadCharacter, LimitExceeded, UnexpectedToken}
 use Rattle.source.specs.Texts.{HasTokens, IsOver, SOURCE_LIMIT}
 use Rattle.source.specs.Tokens.{Tok, name}
 use Rattle.syntax.specs.Faults.{IsUnexpected}
@@ -58,10 +58,17 @@ pub data IsTrueTextNote (text : List ℕ) (code : Code) (at : ℕ) (note : Note)
 abbrev pub AreTrueTextNotes : List ℕ → Code → ℕ → List Note → Type 0
 AreTrueTextNotes text code at notes = All (IsTrueTextNote text code at) notes
 
--- at an unexpected token of the text there is a note, where the tokens require one
-abbrev pub IsExpectedTold : List ℕ → Code → ℕ → List Note → Type 0
-IsExpectedTold text code at notes =
-    (tokens : List Tok) → length text ≤ SOURCE_LIMIT → HasTokens text tokens → IsUnexpected tokens at → IsTokenTold tokens code at → 1 ≤ length notes
+-- the notes on an unexpected token: the advice, and then what could be there, each at most once; the latter is there
+-- where the tokens require it
+pub record AreEachOnce (tokens : List Tok) (code : Code) (at : ℕ) (notes : List Note) : Type 0 where
+  pub advice : List Note
+  pub expected : List Note
+  pub parts : notes ≡ advice ++ expected
+  pub are_advice : All (IsAdvice tokens code at) advice
+  pub one_advice : length advice ≤ 1
+  pub are_expected : All (IsTrueTokenNote tokens code at) expected
+  pub one_expected : length expected ≤ 1
+  pub told : IsUnexpected tokens at → IsTokenTold tokens code at → 1 ≤ length expected
 
 -- the advice on an unexpected token, if there is one, is the first note
 abbrev pub IsAdviceTold : List ℕ → Code → ℕ → List Note → Type 0
@@ -69,13 +76,16 @@ IsAdviceTold text code at notes =
     (tokens : List Tok) (note : Note) → length text ≤ SOURCE_LIMIT → HasTokens text tokens → IsUnexpected tokens at →
     IsAdvice tokens code at note → slice_get notes 0 ≡ Some note
 
--- the notes are true, and there is one where one is required
+-- the notes are true, at most one is given unless the fault is an unexpected token, and there is one where one is
+-- required
 pub record AreTextNotes (text : List ℕ) (code : Code) (at : ℕ) (notes : List Note) : Type 0 where
   pub are_true : AreTrueTextNotes text code at notes
+  pub single : (code ≡ UnexpectedToken → ⊥) → length notes ≤ 1
   pub told : (tokens : List Tok) (decls : List Decl) → length text ≤ SOURCE_LIMIT → HasTextTree text tokens decls →
       IsTold tokens decls code at →
       1 ≤ length notes
-  pub expected : IsExpectedTold text code at notes
+  pub each_once : (tokens : List Tok) → code ≡ UnexpectedToken → length text ≤ SOURCE_LIMIT → HasTokens text tokens →
+      AreEachOnce tokens code at notes
   pub advised : IsAdviceTold text code at notes
   pub marked : IsMarkFault text code at → 1 ≤ length notes
   pub limited : (words : List ℕ) → code ≡ LimitExceeded → IsTextLimit text at words → 1 ≤ length notes

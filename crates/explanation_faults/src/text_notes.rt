@@ -207,9 +207,10 @@ fn other_told(alloc: Global, text: &[u8], fault: &Fault) -> Result<FaultTold, No
 /// `fault` is the first fault of names and types, the further faults are those after it, at most nineteen, and whether
 /// there are more.
 ///
-/// Each note is true. `E06` has a note if a name is near, or `null` is near and could stand there. `E07` has one if
-/// something isn't what is expected or both sides are unlike, `E10` if a lock could protect the name, `E13` if the
-/// `var` is found, and `E15` on helpers or lock paths if that is the first fault of its kind.
+/// Each note is true. A fault has at most one note, but an unexpected token can have two: the advice, and then the
+/// tokens that could come, each at most once. `E06` has a note if a name is near, or `null` is near and could stand
+/// there. `E07` has one if something isn't what is expected or both sides are unlike, `E10` if a lock could protect the
+/// name, `E13` if the `var` is found, and `E15` on helpers or lock paths if that is the first fault of its kind.
 ///
 /// # Errors
 ///
