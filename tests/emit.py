@@ -1,19 +1,19 @@
 #!/usr/bin/env python3
 """What `emit` writes, compiled and run beside `serial`.
 
-    tests/emit.py BIN [--seed N] [--count N] [--jobs N] [--keep FOLDER] [FILE ..]
+    tests/emit.py BIN [--seed N] [--count N] [--ways HOW] [--histories N] [--jobs N] [--keep FOLDER] [FILE ..]
 
 BIN is the built program. Each FILE, by default those of examples/ and the worked rows of tests/rows.json, and `--count` random
 programs (by default 300, those of the seeds from N on, 1 by default) are given to `emit`:
 
 refused   where `listing` refuses the text, so does `emit`, with the same message and status
-compiled  gcc and clang, -O0 and -O2, -std=c11 -Wall -Wextra -Werror -pedantic, take the file, and g++ -std=c++17 the header;
-          none takes more than ten seconds
+compiled  gcc and clang, -O0, -O2 and -O3, -std=c11 -Wall -Wextra -Werror -pedantic, take the file, and g++ -std=c++17 the
+          header; none takes more than ten seconds
 serial    the program with AL_MAIN, given the word `serial`, writes what `serial` does, byte for byte; also with
           -fsanitize=undefined,address, AL_PORTABLE and AL_CHECK
 threads   it runs a thread for each script, under -fsanitize=thread, with no report
-history   with AL_HISTORY too it writes the history of that run, three times, also under -fsanitize=thread; `replay` says
-          `same` of it, and something else where a result in it is changed
+history   with AL_HISTORY too it writes the history of that run, `--histories` times (by default three), also under
+          -fsanitize=thread; `replay` says `same` of it, and something else where a result in it is changed
 labels    are the places to which the jumps of `listing` lead
 lines     with `--lines`, the C is told to be of the lines that `listing --places` has, also of files with hard names
 
@@ -21,22 +21,28 @@ recorder  where memory is refused it, nothing is written and the status is 4; ca
           calls that wait for a lock have begun before the call that had it ended
 callers   those of examples/c, in C, C++, Python and, where rustc is there, Rust, come to the total of their accounts
 
-Random programs are compiled by one compiler with warnings, and one more way each, in turn. At the end the tests are tested:
-changed C files have to be found out. A FILE of which something isn't as it should be is kept in `--keep`. The last line is
-'N passed, M failed'; exit status 1 where M is not 0, 3 where a compiler is missing and can't be installed.
+Random programs are compiled by one compiler with warnings, and one more way each, in turn. With `--ways all` each is
+compiled by both compilers at each level, one of the six with AL_HISTORY, and with sanitizers in one way; with `--ways two`
+by two of the six, one with AL_HISTORY, and with sanitizers; and they alone are tried. Otherwise the tests are tested
+at the end: changed C files have to be found out. A FILE of which something isn't as it should be is kept in `--keep`. The
+last lines are the numbers of accepted programs, compiles and histories, and 'N passed, M failed'; exit status 1 where M is
+not 0, 3 where a compiler is missing and can't be installed.
 """
 
 import argparse
+import collections
+import functools
 import itertools
 import multiprocessing
 import os
 import pathlib
+import random
 import re
+import resource
 import shutil
 import subprocess
 import sys
 import tempfile
-import time
 
 from helper_programs import drawn
 
@@ -45,11 +51,10 @@ STRICT = ["-std=c11", "-Wall", "-Wextra", "-Werror", "-pedantic"]
 MAIN = ["-DAL_MAIN", "-pthread"]
 SECONDS = 10
 PROCESSORS = len(os.sched_getaffinity(0))
+# Both compilers at each level.
+LEVELS = {f"{name}-{level}": [name, f"-{level}", *STRICT, *MAIN] for name in ("gcc", "clang") for level in ("O0", "O2", "O3")}
 WAYS = {
-    "gcc-O0": ["gcc", "-O0", *STRICT, *MAIN],
-    "gcc-O2": ["gcc", "-O2", *STRICT, *MAIN],
-    "clang-O0": ["clang", "-O0", *STRICT, *MAIN],
-    "clang-O2": ["clang", "-O2", *STRICT, *MAIN],
+    **LEVELS,
     "packed": ["gcc", "-O1", *STRICT, *MAIN, "-DAL_LINE=8", "-DAL_PORTABLE"],
     "undefined": ["gcc", "-O1", "-g", "-fsanitize=undefined,address", "-fno-sanitize-recover=all", *STRICT, *MAIN]
     + ["-DAL_PORTABLE", "-DAL_CHECK"],
@@ -57,6 +62,9 @@ WAYS = {
     "history": ["gcc", "-O2", *STRICT, *MAIN, "-DAL_HISTORY"],
     "history-threads": ["clang", "-O1", "-g", "-fsanitize=thread", *STRICT, *MAIN, "-DAL_HISTORY", "-DAL_CHECK"],
 }
+SANITIZED = ["undefined", "threads", "history-threads"]
+# The levels with a history: ways that are only taken where `--ways` asks for them.
+RECORDED = {f"history-{way}": [*words, "-DAL_HISTORY"] for way, words in LEVELS.items()}
 # The other ways, which random programs take in turn beside the first.
 FIRST = "gcc-O2"
 JUMP = re.compile(r"^\d+ (?:jump|jtrue|jfalse) (\d+)$", re.M)
@@ -72,15 +80,22 @@ class Differs(Exception):
 
 
 def run(words, **more):
-    done = subprocess.run(words, capture_output=True, timeout=120, **more)
+    done = subprocess.run(words, capture_output=True, timeout=600, **more)
     return done.returncode, done.stdout, done.stderr
+
+
+def spent():
+    """The processor's seconds that commands of this process have taken; others may be at work beside them."""
+    told = resource.getrusage(resource.RUSAGE_CHILDREN)
+    return told.ru_utime + told.ru_stime
 
 
 class Emitted:
     """A program's text, in a folder of its own."""
 
-    def __init__(self, binary, folder, text):
-        self.binary, self.folder = binary, folder
+    def __init__(self, binary, folder, text, histories=3):
+        self.binary, self.folder, self.histories = binary, folder, histories
+        self.counts = collections.Counter()
         self.source = os.path.join(folder, "program.al")
         with open(self.source, "wb") as file:
             file.write(text)
@@ -107,26 +122,32 @@ class Emitted:
         return False
 
     def compiled(self, way, name="program"):
-        begun = time.monotonic()
-        status, _, told = run([*WAYS[way], "-o", self.path(f"{name}-{way}"), self.path(f"{name}.c")])
+        begun = spent()
+        self.counts["compiles"] += 1
+        status, _, told = run([*(WAYS | RECORDED)[way], "-o", self.path(f"{name}-{way}"), self.path(f"{name}.c")])
         if status != 0:
             raise Differs(f"{way}: {told.decode(errors='replace')}")
-        if time.monotonic() - begun > SECONDS * 3:
-            raise Differs(f"{way}: compiled in {time.monotonic() - begun:.1f} s")
+        if spent() - begun > SECONDS:
+            raise Differs(f"{way}: compiled in {spent() - begun:.1f} s")
         return self.path(f"{name}-{way}")
+
+    @functools.cached_property
+    def wanted(self):
+        """What `serial` ends with and writes."""
+        return run([self.binary, "serial", "--turns", "100000", self.source])
 
     def serial(self, way, name="program"):
         """It writes what `serial` does."""
-        wanted = run([self.binary, "serial", "--turns", "100000", self.source])
         program = self.compiled(way, name)
-        if wanted[0] != 0:
-            return
+        if self.wanted[0] != 0:
+            return program
         status, out, told = run([program, "serial"])
-        if (status, out) != (0, wanted[1]):
-            raise Differs(f"{way}: serial ends with {status}\n{out.decode()}{told.decode()}\nbut\n{wanted[1].decode()}")
+        if (status, out) != (0, self.wanted[1]):
+            raise Differs(f"{way}: serial ends with {status}\n{out.decode()}{told.decode()}\nbut\n{self.wanted[1].decode()}")
+        return program
 
     def threads(self, name="program"):
-        if run([self.binary, "serial", "--turns", "100000", self.source])[0] != 0:
+        if self.wanted[0] != 0:
             return
         status, out, told = run([self.compiled("threads", name)])
         if status != 0 or told:
@@ -134,19 +155,17 @@ class Emitted:
         if not out.endswith(b"end\n"):
             raise Differs(f"threads: writes\n{out.decode()}")
 
-    def settles(self):
-        return run([self.binary, "serial", "--turns", "100000", self.source])[0] == 0
-
     def replayed(self, history, name="replayed"):
         """What `replay` says of a history."""
         return run([self.binary, "replay", self.source, self.write(f"{name}.history", history)])[:2]
 
-    def history(self, way="history", name="program", runs=3):
-        """What threads write is a history that can be."""
-        program = self.compiled(way, name)
-        if not self.settles():
+    def history(self, way="history", name="program", runs=0):
+        """What threads write is a history that can be; and `serial` as without one."""
+        program = self.serial(way, name)
+        if self.wanted[0] != 0:
             return
-        for _ in range(runs):
+        for _ in range(runs or self.histories):
+            self.counts["histories"] += 1
             status, out, told = run([program])
             if status != 0 or told:
                 raise Differs(f"{way}: ends with {status}\n{told.decode()}")
@@ -274,31 +293,35 @@ def in_order(history):
 
 
 def try_one(part):
-    binary, keep, name, text, ways = part
+    binary, keep, histories, name, text, ways = part
     with tempfile.TemporaryDirectory() as folder:
-        emitted = Emitted(binary, folder, text)
+        emitted = Emitted(binary, folder, text, histories)
         tried = 0
         try:
             if not emitted.accepted():
-                return name, 1, None
+                return name, 1, None, emitted.counts
+            emitted.counts["programs"] += 1
             emitted.labels()
-            emitted.lines(ran=len(ways) > 2)
-            tried = 3
-            if len(ways) > 2:
+            tried = 2
+            is_random = name.startswith("seed-")
+            if len(ways) == 2 or not is_random:
+                emitted.lines(ran=not is_random)
+                tried += 1
+            if not is_random:
                 emitted.header()
                 emitted.prefix()
                 tried += 2
             for way in ways:
                 emitted.way(way)
                 tried += 1
-            return name, tried, None
+            return name, tried, None, emitted.counts
         except (Differs, subprocess.TimeoutExpired) as wrong:
             if keep:
                 os.makedirs(keep, exist_ok=True)
                 for kept in ("program.al", "program.c"):
                     if os.path.exists(emitted.path(kept)):
                         shutil.copy(emitted.path(kept), os.path.join(keep, name.replace("/", "-") + kept[7:]))
-            return name, tried, str(wrong)
+            return name, tried, str(wrong), emitted.counts
 
 
 ENDED = r"(#ifdef AL_HISTORY\n  autolock_ended.*\n#endif\n)"
@@ -495,6 +518,9 @@ def has_compilers():
 
 def programs_of(arguments):
     """Each program with its name, its text and the ways that it is tried."""
+    if arguments.ways != "some":
+        yield from random_programs(arguments)
+        return
     if arguments.files:
         for file in arguments.files:
             yield file, pathlib.Path(file).read_bytes(), list(WAYS)
@@ -504,10 +530,23 @@ def programs_of(arguments):
     yield from rows()
     for name, text in hard():
         yield f"hard/{name}", text.encode(), list(WAYS)
-    ways = [way for way in WAYS if way != FIRST]
+    yield from random_programs(arguments)
+
+
+def ways_of(seed, how):
+    """The ways that a random program takes."""
+    if how == "some":
+        others = [way for way in WAYS if way != FIRST]
+        return [FIRST, others[seed % len(others)]]
+    chance = random.Random(seed)
+    first, *others = chance.sample(list(LEVELS), 2 if how == "two" else len(LEVELS))
+    return [f"history-{first}", *others, chance.choice(SANITIZED)]
+
+
+def random_programs(arguments):
     for seed in range(arguments.seed, arguments.seed + arguments.count):
         text = "\n".join(drawn(seed, lists=seed % 2 == 1)).encode("latin-1")
-        yield f"seed-{seed}", text, [FIRST, ways[seed % len(ways)]]
+        yield f"seed-{seed}", text, ways_of(seed, arguments.ways)
 
 
 def along(paths, members):
@@ -568,26 +607,30 @@ def main():
     words.add_argument("files", nargs="*")
     words.add_argument("--seed", type=int, default=1)
     words.add_argument("--count", type=int, default=300)
+    words.add_argument("--ways", choices=["some", "two", "all"], default="some")
+    words.add_argument("--histories", type=int, default=3)
     words.add_argument("--jobs", type=int, default=os.cpu_count())
     words.add_argument("--keep")
     arguments = words.parse_args()
     if not has_compilers():
         return 3
     binary = os.path.realpath(arguments.binary)
-    passed, failed = 0, 0
-    parts = [(binary, arguments.keep, *program) for program in programs_of(arguments)]
+    passed, failed, counts = 0, 0, collections.Counter()
+    parts = [(binary, arguments.keep, arguments.histories, *program) for program in programs_of(arguments)]
     with multiprocessing.Pool(arguments.jobs) as pool:
-        for name, tried, wrong in pool.imap_unordered(try_one, parts):
+        for name, tried, wrong, counted in pool.imap_unordered(try_one, parts):
             passed += tried
+            counts += counted
             if wrong:
                 failed += 1
-                print(f"{name}: {wrong}")
-    if not arguments.files:
+                print(f"{name}: {wrong}", flush=True)
+    if not arguments.files and arguments.ways == "some":
         for found, missed in (tested_tests(binary), recorded(binary), named(binary), called(binary)):
             passed += found
             failed += len(missed)
             for line in missed:
                 print(line)
+    print(", ".join(f"{counts[what]} {what}" for what in ("programs", "compiles", "histories")))
     print(f"{passed} passed, {failed} failed")
     return 1 if failed else 0
 

@@ -1,14 +1,16 @@
 #!/usr/bin/env python3
 """Makes each growth of memory, each read and each write of a built program fail in turn, and looks at how the run ends.
 
-    tests/failing.py [--program BIN] [--commands NAMES] [--turns N] [--every N] [FILE..]
+    tests/failing.py [--program BIN] [--commands NAMES] [--turns N] [--every N] [--lasting] [FILE..]
     tests/failing.py --cases [--program BIN] [--every N] [FILE..]
     tests/failing.py --unit-tests [--program BIN] [--every N] [--test NAME]
 
---commands      which of check, explain, order, listing, emit, serial, outcomes, simulate, trace, run and replay, joined by commas; by
-                default all
+--commands      which of check, explain, format, order, listing, emit, serial, outcomes, schedule, simulate, trace, run, replay and
+                lsp, joined by commas; by default all. Of some, options are tried too: explain --json, emit --header and --lines,
+                outcomes --cells of the first cell, schedule --worst, replay --why and --open
 --turns N       of serial, outcomes and replay, by default 1000; outcomes looks at 5 orders at most
 --every N       only every N-th growth
+--lasting       each growth after a refused one is refused too
 --cases         the program `test_cases` over each of its files, and of its calls the growths alone
 --unit-tests    the programs of the tests of `test_units` and `test_workers`, and of their calls the
                 growths alone; of each test of `test_workers` some 300 growths, spread over all
@@ -23,10 +25,14 @@ tests/failing/failing.c does where it is preloaded. A refused growth must end wi
 `autolock: no memory` and nothing written; a failed read with status 3 and `autolock: cannot read NAME`; a failed write
 of a text with status 3 and `autolock: cannot write`, and of a line of standard error with the status that the whole run
 has. How many growths a run with threads makes differs from run to run: one that made fewer than the number that was to
-fail must end as it does when none fails. `test_cases` must end with 4, or find all as wanted; a test must pass, or fail by an error that says that memory
+fail must end as it does when none fails. A session of `lsp` over a program may also answer one message by -32603 in place of
+that; all else must be as if that message had not come. What it has written when it ends early is a beginning of what it writes
+when nothing fails, of whole answers where memory or a read failed. `test_cases` must end with 4, or find all as wanted; a test must pass, or fail by an error that says that memory
 was refused. The last line is 'N runs, M failed'; exit status 1 where M is not 0.
 """
 import argparse
+import functools
+import json
 import multiprocessing
 import os
 import pathlib
@@ -37,23 +43,30 @@ import tempfile
 import typing
 
 TOP = pathlib.Path(__file__).resolve().parent.parent
+sys.path.insert(0, str(TOP / "tests"))
+from lsp import frame, frames_of  # noqa: E402
+from lsp_hostile import messages_about  # noqa: E402
+
+LASTING = False
 
 
 class Subject(typing.NamedTuple):
-    """A program with its words, the names that a failed read may tell, how a run with a failing call is judged, and of
-    its growths every how many fail, and how many at most."""
+    """A program with its words, the names that a failed read may tell, how a run with a failing call is judged, of
+    its growths every how many fail, and how many at most, and the file of its standard input."""
 
     words: list
     names: list
     judges: dict
     every: int
     most: int = 1 << 62
+    given: str = os.devnull
 
 
-def run(library, words, counts, **failing):
-    environment = {"LD_PRELOAD": library, "FAIL_COUNTS": counts}
+def run(library, subject, counts, **failing):
+    environment = {"LD_PRELOAD": library, "FAIL_COUNTS": counts} | ({"FAIL_LASTING": "1"} if LASTING else {})
     environment.update({f"FAIL_{kind.upper()}": str(number) for kind, number in failing.items()})
-    return subprocess.run(words, env=environment, capture_output=True, stdin=subprocess.DEVNULL, timeout=120)
+    with open(subject.given, "rb") as given:
+        return subprocess.run(subject.words, env=environment, capture_output=True, stdin=given, timeout=600)
 
 
 def wrong_growth(_whole, ended, _names):
@@ -83,6 +96,34 @@ def wrong_write(whole, ended, _names):
     return None if is_same else "a failing standard error changes the status"
 
 
+def early_end(whole, ended, status, line):
+    """Whether a session of `lsp` ended early, with this status and line."""
+    return (ended.returncode, ended.stderr) == (status, line) and whole.stdout.startswith(ended.stdout)
+
+
+def wrong_growth_of_session(sessions, whole, ended, _names):
+    """What is wrong with a session that was refused a growth, or nothing; given what comes of it without each message."""
+    if early_end(whole, ended, 4, b"autolock: no memory\n"):
+        return None if frames_of(ended.stdout) is not None else "no whole answers"
+    frames = frames_of(ended.stdout)
+    short = [one for one in frames if one.get("error", {}).get("code") == -32603]
+    rest = [one for one in frames if one not in short]
+    found = [(status, answers, place, whom) for status, answers, place, whom in sessions if (status, answers) == (ended.returncode, rest)]
+    if len(short) != 1 or ended.stderr:
+        return "a refused growth is neither status 4 nor answered by one error"
+    is_right = any(frames.index(short[0]) == place and short[0]["id"] in (None, whom) for _, _, place, whom in found)
+    return None if is_right else "other answers than without the message that was short of memory"
+
+
+def wrong_read_of_session(whole, ended, _names):
+    is_right = early_end(whole, ended, 3, b"autolock: cannot read standard input\n") and frames_of(ended.stdout) is not None
+    return None if is_right else "a failed read does not end with status 3 and its line"
+
+
+def wrong_write_of_session(whole, ended, _names):
+    return None if early_end(whole, ended, 3, b"autolock: cannot write\n") else "a failed write does not end with status 3 and its line"
+
+
 def wrong_cases(whole, ended, _names):
     """What is wrong with a run of `test_cases` that was refused a growth, or nothing."""
     is_right = ended.returncode == 4 if ended.returncode else ended.stdout == whole.stdout
@@ -104,14 +145,14 @@ def wrong_test(whole, ended, _names):
 def fail_each(part):
     library, subject = part
     with tempfile.NamedTemporaryFile() as counts:
-        whole = run(library, subject.words, counts.name)
+        whole = run(library, subject, counts.name)
         told = map(int, pathlib.Path(counts.name).read_text().split())
         numbers = dict(zip(("growth", "read", "write"), told))
         runs, failed = 0, []
         for kind, judge in subject.judges.items():
             every = max(subject.every, numbers[kind] // subject.most + 1) if kind == "growth" else 1
             for number in range(1, numbers[kind] + 1, every):
-                ended = run(library, subject.words, counts.name, **{kind: number})
+                ended = run(library, subject, counts.name, **{kind: number})
                 wrong = judge(whole, ended, subject.names)
                 came = int(pathlib.Path(counts.name).read_text().split()[0]) >= number
                 if judge is wrong_growth_of_run and came and ended.returncode == 0:
@@ -132,6 +173,31 @@ def with_other_cell(history):
     return b"\n".join(lines)
 
 
+def options_of(command, program, file):
+    """The lists of options of a command that are tried, each in turn."""
+    if command == "outcomes":
+        told = subprocess.run([program, "serial", "--turns", "1000", str(file)], capture_output=True, text=True)
+        cell = re.search(r"^cells\n(?!end$)(\S+) ", told.stdout, re.M)
+        return [[], *([["--cells", cell[1]]] if cell else [])]
+    more = {"explain": ["--json"], "schedule": ["--worst", "--length", "20"], "replay": ["--open"]}.get(command)
+    return [[], ["--header"], ["--lines"]] if command == "emit" else [[], more] if more else [[]]
+
+
+def session_of(program, file, room, number, a):
+    """A session of `lsp` about a program, with what comes of it without each of its messages."""
+    bodies = messages_about(file.read_bytes())
+    given = pathlib.Path(room, f"session-{number}")
+    sessions, place = [], 0
+    for at, body in enumerate(bodies):
+        told = json.loads(body)
+        done = subprocess.run([program, "lsp"], input=b"".join(map(frame, bodies[:at] + bodies[at + 1 :])), capture_output=True)
+        sessions.append((done.returncode, frames_of(done.stdout), place, told.get("id")))
+        place += "id" in told or told["method"].startswith("textDocument/did")
+    given.write_bytes(b"".join(map(frame, bodies)))
+    judges = {"growth": functools.partial(wrong_growth_of_session, sessions), "read": wrong_read_of_session, "write": wrong_write_of_session}
+    return Subject([program, "lsp"], [], judges, a.every, given=str(given))
+
+
 def of_autolock(a, room):
     program = str((a.program or TOP / "crates/autolock/out/autolock").resolve())
     drawn = pathlib.Path(room, "steps")
@@ -139,6 +205,9 @@ def of_autolock(a, room):
     judges = {"growth": wrong_growth, "read": wrong_read, "write": wrong_write}
     for command in a.commands.split(","):
         for number, file in enumerate(a.files or sorted((TOP / "examples").glob("*.al"))):
+            if command == "lsp":
+                yield session_of(program, file, room, number, a)
+                continue
             steps = file.with_suffix(".steps")
             names = [str(file)] + [str(steps if steps.exists() else drawn)] * (command in ("simulate", "trace"))
             if command in ("run", "replay"):
@@ -150,14 +219,14 @@ def of_autolock(a, room):
                 names += [str(history)] * (command == "replay")
             turns = ["--turns", str(a.turns)] * (command in ("serial", "outcomes", "replay")) + ["--count", "5"] * (command == "outcomes")
             judged = {**judges, "growth": wrong_growth_of_run} if command == "run" else judges
-            yield Subject([program, command, *turns, *names], names, judged, a.every)
-            if command == "explain":
-                yield Subject([program, command, "--json", *names], names, judged, a.every)
+            for options in options_of(command, program, file):
+                yield Subject([program, command, *turns, *options, *names], names, judged, a.every)
             if command == "replay":
                 other = pathlib.Path(room, f"other-{number}")
                 other.write_bytes(with_other_cell(told.stdout))
                 names = [str(file), str(other)]
-                yield Subject([program, command, *turns, "--why", *names], names, judged, a.every)
+                for options in (["--why"], ["--why", "--open"]):
+                    yield Subject([program, command, *turns, *options, *names], names, judged, a.every)
 
 
 def of_cases(a):
@@ -181,20 +250,24 @@ def of_unit_tests(a):
 def main():
     p = argparse.ArgumentParser(formatter_class=argparse.RawDescriptionHelpFormatter, description=__doc__)
     p.add_argument("--program", type=pathlib.Path)
-    p.add_argument("--commands", default="check,explain,order,listing,emit,serial,outcomes,simulate,trace,run,replay")
+    p.add_argument("--commands", default="check,explain,format,order,listing,emit,serial,outcomes,schedule,simulate,trace,run,replay,lsp")
     p.add_argument("--turns", type=int, default=1000)
     p.add_argument("--every", type=int, default=1)
+    p.add_argument("--lasting", action="store_true")
+    p.add_argument("--jobs", type=int, default=os.cpu_count())
     p.add_argument("--cases", action="store_true")
     p.add_argument("--unit-tests", action="store_true")
     p.add_argument("--test")
     p.add_argument("files", nargs="*", type=pathlib.Path, metavar="FILE")
     a = p.parse_args()
+    global LASTING
+    LASTING = a.lasting
     with tempfile.TemporaryDirectory() as room:
         library = f"{room}/failing.so"
         subprocess.run(["cc", "-O2", "-shared", "-fPIC", "-o", library, TOP / "tests/failing/failing.c", "-ldl"], check=True)
         subjects = of_cases(a) if a.cases else of_unit_tests(a) if a.unit_tests else of_autolock(a, room)
         runs, failed = 0, []
-        with multiprocessing.Pool() as pool:
+        with multiprocessing.Pool(a.jobs) as pool:
             for count, wrong in pool.imap_unordered(fail_each, [(library, it) for it in subjects]):
                 runs += count
                 failed += wrong

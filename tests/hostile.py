@@ -1,13 +1,15 @@
 #!/usr/bin/env python3
 """Gives hostile sources to `autolock` and looks at how each run ends: of `check`, `explain`, `explain --json`, `order`,
-`listing`, `serial --turns 1000`, `outcomes` of 10 orders, with a steps file drawn for each source `simulate` and `trace`,
-and `replay --turns 1000` of what `serial` wrote, as it is and with one byte changed.
+`listing`, `emit`, `format`, `serial --turns 1000`, `outcomes` of 10 orders, also with `--cells` and names drawn for each
+source, `schedule`, also with `--worst`, with a steps file drawn for each source `simulate` and `trace`, and `replay --turns 1000`,
+also with `--open`, of what `serial` wrote, as it is and with one byte changed.
 
     tests/hostile.py [--program BIN] [--commands NAMES] [--cuts] [--bytes] [--random COUNT] [--every N] [--seed N] [FILE..]
 
 With no choice of kinds: --cuts --bytes --random 2000, each cut and byte at every 7th place, which takes a minute.
 
---commands      which of the ten, joined by commas (`json` is `explain --json`); by default all
+--commands      which of them, joined by commas (`json` is `explain --json`, `cells` is `outcomes --cells`, `worst` is
+                `schedule --worst`, `open` is `replay --open`); by default all
 --cuts          every beginning of each program
 --bytes         each program with one byte replaced by each of `(`, `}`, `0`, `.`, 0x00 and 0x80
 --random COUNT  so many programs made from the given ones by a few random changes each, and a third of them by a helper and calls
@@ -25,11 +27,15 @@ or with --json is an object that tells it; with 7, the last line of standard out
 error is empty. What `trace --all` writes has a line for each step, and ends with what `simulate` writes. These two end with 6
 and the line of the steps file's first fault, as this script finds it, exactly where there is one, or of an item whose steps
 only a run tells with S3. `replay` answers `same` to what `serial` wrote; of a changed text it answers one line with status 5 or 7, or tells the text's first fault with 6.
+`format` has the tokens and comments of the source, laid out (tests/format.py), exactly where no command tells a fault of its text.
+`outcomes --cells` has the ends of `outcomes --full`, as often, in the lines of these cells, or tells the first name of none with 6. What
+`schedule` writes has no faulty item, and `simulate` takes what `--worst` does.
 Of a cycle of lock classes `order` writes the graph too; another build may leave it out.
 A source of which that doesn't hold is kept as hostile-NUMBER.al, with its steps. The last line is 'N runs, M failed';
 exit status 1 where M is not 0.
 """
 import argparse
+import collections
 import json
 import multiprocessing
 import os
@@ -41,6 +47,8 @@ import sys
 import tempfile
 import typing
 import zlib
+
+from format import OF_TEXT, compared, laid_out
 
 TOP = pathlib.Path(__file__).resolve().parent.parent
 REPLACEMENTS = [b"(", b"}", b"0", b".", b"\x00", b"\x80"]
@@ -83,12 +91,12 @@ def begin_process():
     signal.signal(signal.SIGALRM, stop)
 
 
-def run(words):
-    """Runs a command for at most 20 seconds."""
+def run(words, given=os.devnull):
+    """Runs a command for at most 20 seconds, with this file as its standard input."""
     for file in OUTPUTS:
         os.ftruncate(file, 0)
         os.lseek(file, 0, os.SEEK_SET)
-    streams = [(os.POSIX_SPAWN_OPEN, 0, os.devnull, os.O_RDONLY, 0)]
+    streams = [(os.POSIX_SPAWN_OPEN, 0, given, os.O_RDONLY, 0)]
     streams += [(os.POSIX_SPAWN_DUP2, file, to) for to, file in enumerate(OUTPUTS, 1)]
     child = os.posix_spawn(words[0], words, os.environ, file_actions=streams)
     signal.setitimer(signal.ITIMER_REAL, 20)
@@ -213,6 +221,12 @@ ARGUMENTS = {
     "simulate": ["simulate"],
     "trace": ["trace", "--all"],
     "replay": ["replay", "--turns", "1000"],
+    "open": ["replay", "--open", "--turns", "1000"],
+    "emit": ["emit"],
+    "format": ["format"],
+    "cells": ["outcomes", "--turns", "1000", "--count", "10", "--full", "--cells"],
+    "schedule": ["schedule", "--length", "20"],
+    "worst": ["schedule", "--worst", "--length", "20"],
 }
 WITH_STEPS = ("simulate", "trace")
 TITLES = {"serial": b"history 1\n", "simulate": b"simulation 1\n"}
@@ -229,13 +243,18 @@ CYCLIC = re.compile(
     rb'digraph lock_order \{\n(  "[\w.]+";\n)*(  "[\w.]+" -> "[\w.]+" \[label="\w+:\d+:\d+"(, color="red")?\];\n)*\}\n'
 )
 OUTCOMES = re.compile(
-    rb"orders \d+ (all\nstates [1-9]\d*|drawn)\n(outcome [1-9]\d* after( \d+)*\ncells\n([\w.\[\]]+ ([\w\[\]]+|-\d+)\n)*end\n)*"
+    rb"orders (reduced\nstates [1-9]\d*|\d+ (all\nstates [1-9]\d*|drawn))\n(outcome ([1-9]\d* )?after( \d+)*\ncells\n([\w.\[\]]+ ([\w\[\]]+|-\d+)\n)*end\n)*"
 )
 LINE = re.compile(rb"section \w+|\d+ [a-z][ -~]*")
 LOCK = rb"[\w.\[\]]+"
 STEP = re.compile(
     rb"\d+ (idle|began \w+\([\w\[\], -]*\)|got %s|waits %s for \d+|moved (\d+:\d+ )?[a-z][ -~]*|ended at \d+)" % (LOCK, LOCK)
 )
+
+
+ITEMS = re.compile(rb"([A-Za-z_]\w*(\*[1-9]\d*|[!+])\n)*", re.ASCII)
+C_FILE = re.compile(rb"/\* Sections with their locks placed, by autolock\. \*/\n#ifndef alHeader\n.*\nint main\(.*\n#endif\n", re.S)
+ENDS = re.compile(rb"outcome (\d*) ?after[ \d]*\ncells\n((?:[^\n]+\n)*?)end\n")
 
 
 def object_in(out):
@@ -266,8 +285,14 @@ def is_whole(command, out):
         return object_in(out).get("accepted") is True
     if command == "order":
         return bool(GRAPH.fullmatch(out))
-    if command == "outcomes":
+    if command in ("outcomes", "cells"):
         return bool(OUTCOMES.fullmatch(out))
+    if command in ("schedule", "worst"):
+        return bool(ITEMS.fullmatch(out)) and out.count(b"\n") <= 20
+    if command == "emit":
+        return bool(C_FILE.fullmatch(out))
+    if command == "format":
+        return not laid_out(out)
     if command == "check":
         return out.startswith(b"accepted\n") and out.endswith(b"\n")
     if command == "trace":
@@ -294,7 +319,9 @@ def fault_of(command, ended):
         return None if one_line and not out else f"{command}: status 1 without one line alone"
     if ended.returncode == 6 and command in WITH_STEPS:
         return None if not out else "status 6 with a text"
-    if ended.returncode == 7 and command in ("serial", "outcomes"):
+    if ended.returncode == 6 and command == "cells":
+        return None if re.fullmatch(rb"autolock: no cell is named [\w.\[\]]+\n", err) and not out else "cells: status 6 without its line alone"
+    if ended.returncode == 7 and command in ("serial", "outcomes", "cells"):
         unsettled = out.rstrip(b"\n").rsplit(b"\n", 1)[-1].startswith(b"unsettled ")
         return None if unsettled and not err else "status 7 without an unsettled call"
     return f"{command}: status {ended.returncode}"
@@ -334,6 +361,81 @@ def wrong_steps(program, command, path, ended):
     return wrong_trace(program, path, ended) if command == "trace" and fault is None else None
 
 
+def names_for(text):
+    """Names of cells, mostly."""
+    choose = random.Random(zlib.crc32(text))
+    declared = re.findall(rb"\b(?:global\s+(?:int|ref\s+\w+)|pool\s+\w+)\s+([A-Za-z_]\w*)", text, re.ASCII) or [b"x"]
+    fields = re.findall(rb"\b[A-Za-z_]\w*", text, re.ASCII)[:200] or [b"x"]
+    names = []
+    for _ in range(choose.randint(1, 2)):
+        name = choose.choice(declared) if choose.random() < 0.95 else choose.choice(fields)
+        if choose.random() < 0.3:
+            name += b"[%d]" % choose.choice([0, 0, 1, 2, 9])
+            name += b"." + choose.choice(fields) if choose.random() < 0.3 else b""
+        names.append(name.decode())
+    return ",".join(names)
+
+
+def of_cells(out, names):
+    """How often each end comes in an outcomes text, by its lines of these cells; and the first of the names that no line has."""
+    found, missing = collections.Counter(), set(names)
+    for count, lines in ENDS.findall(out):
+        kept = []
+        for line in lines.decode().splitlines():
+            of = [name for name in names if re.match(re.escape(name) + r"[\[. ]", line)]
+            missing -= set(of)
+            kept += [line] if of else []
+        found[tuple(kept)] += int(count or 1)
+    reduced = out.startswith(b"orders reduced\n")
+    return set(found) if reduced else found, next((name for name in names if name in missing), None)
+
+
+def wrong_cells(program, path, ended):
+    """What is wrong with what `outcomes --cells` says, beside what `outcomes --full` does, or nothing."""
+    with open(path, "rb") as file:
+        names = names_for(file.read()).split(",")
+    whole = run([program, *ARGUMENTS["cells"][:-1], path])
+    ends, missing = of_cells(whole.stdout, names)
+    if whole.returncode not in (0, 7):
+        return "cells: taken where all cells are refused"
+    if whole.returncode == 7:
+        return None if ended.returncode == 6 or ended == whole else "cells: another end than unsettled"
+    if missing:
+        return None if ended.stderr == f"autolock: no cell is named {missing}\n".encode() else f"cells: {missing} is none"
+    return None if of_cells(ended.stdout, names)[0] == ends else f"cells: other ends, {','.join(names)}"
+
+
+def wrong_items(program, command, path, ended):
+    """What is wrong with a steps file that `schedule` wrote, or nothing."""
+    with open(path, "rb") as file:
+        threads = re.findall(rb"\bthread\s+(\w+)", re.sub(rb"//[^\n]*", b"", file.read()), re.ASCII)
+    if steps_fault(ended.stdout, threads):
+        return f"{command}: a faulty item"
+    with open(path + ".items", "wb") as file:
+        file.write(ended.stdout)
+    # (of drawn items only a run tells whether they are too many steps)
+    taken = command != "worst" or run([program, "simulate", path, path + ".items"]).returncode == 0
+    return None if taken else "worst: simulate takes it not"
+
+
+def wrong_format(path, out):
+    """What is wrong with a formatted text beside its source, or nothing."""
+    with open(path, "rb") as file:
+        wrong = compared(file.read(), out)
+    return f"format: {wrong}" if wrong else None
+
+
+def wrong_beside(program, command, path, ended):
+    """What is wrong with the answer of an accepted source, beside other files and commands, or nothing."""
+    if command in WITH_STEPS:
+        return wrong_steps(program, command, path, ended)
+    if command == "cells":
+        return wrong_cells(program, path, ended)
+    if command in ("schedule", "worst"):
+        return wrong_items(program, command, path, ended)
+    return wrong_format(path, ended.stdout) if command == "format" else None
+
+
 def changed(text):
     """A text with one byte changed, dropped or doubled."""
     choose = random.Random(zlib.crc32(text))
@@ -341,21 +443,21 @@ def changed(text):
     return text[:at] + choose.choice([b"", text[at : at + 1] * 2, b"%c" % choose.randrange(256)]) + text[at + 1 :]
 
 
-def wrong_verdict(program, path, history):
+def wrong_verdict(program, command, path, history):
     """What is wrong with what `replay` says of the history that `serial` wrote, or nothing."""
-    words = [program, *ARGUMENTS["replay"], path, path + ".history"]
+    words = [program, *ARGUMENTS[command], path, path + ".history"]
     with open(path + ".history", "wb") as file:
         file.write(history)
     if run(words) != Ended(0, b"same\n", b""):
-        return "replay: what serial wrote is not the same"
+        return f"{command}: what serial wrote is not the same"
     other = changed(history)
     with open(path + ".history", "wb") as file:
         file.write(other)
     code, out, err = run(words)
     verdict = {0: rb"same\n", 5: rb"differs at line \d+\n", 7: rb"unsettled at line \d+\n", 6: rb""}.get(code)
     if verdict is None or not re.fullmatch(verdict, out) or (code == 0) > (other == history):
-        return f"replay: status {code} of a changed history"
-    return None if (code == 6) == bool(err) else "replay: another message than its status"
+        return f"{command}: status {code} of a changed history"
+    return None if (code == 6) == bool(err) else f"{command}: another message than its status"
 
 
 def are_alike(command, other, ended):
@@ -364,30 +466,42 @@ def are_alike(command, other, ended):
     return other == (ended._replace(stdout=b"") if is_cycle else ended)
 
 
+def words_of(command, path):
+    """The words of a command, after the name of the program."""
+    if command == "cells":
+        with open(path, "rb") as file:
+            return [*ARGUMENTS[command], names_for(file.read()), path]
+    return [*ARGUMENTS[command], path, *([path + ".steps"] if command in WITH_STEPS else [])]
+
+
 def try_one(program, commands, path, other):
     """What is wrong with the runs of these commands over a source, or nothing."""
-    told = set()
+    told, is_formatted = set(), False
     for command in commands:
         try:
-            if command == "replay":
+            if command in ("replay", "open"):
                 history = run([program, *ARGUMENTS["serial"], path])
-                fault = wrong_verdict(program, path, history.stdout) if history.returncode == 0 else None
+                fault = wrong_verdict(program, command, path, history.stdout) if history.returncode == 0 else None
                 if fault:
                     return fault
                 continue
-            words = [path] if command not in WITH_STEPS else [path, path + ".steps"]
-            ended = run([program, *ARGUMENTS[command], *words])
-            if other and not are_alike(command, run([other, *ARGUMENTS[command], *words]), ended):
+            words = words_of(command, path)
+            ended = run([program, *words])
+            if other and not are_alike(command, run([other, *words]), ended):
                 return f"{command}: {other} answers otherwise"
             fault = fault_of(command, ended)
-            if not fault and command in WITH_STEPS and ended.returncode != 1:
-                fault = wrong_steps(program, command, path, ended)
+            if not fault and ended.returncode != 1:
+                fault = wrong_beside(program, command, path, ended)
         except TimeoutError:
             return f"{command}: no end within 20 seconds"
         if fault:
             return fault
-        if ended.returncode != 6:
+        is_formatted |= command == "format" and ended.returncode == 0
+        if ended.returncode != 6 and (command, ended.returncode) != ("format", 0):
             told.add(fault_line(command, ended) if ended.returncode == 1 else ended.stderr)
+    codes = {code for line in told for code in re.findall(rb"^[^\n]*?:\d+:\d+: (E\d\d) ", line)}
+    if is_formatted and codes & OF_TEXT:
+        return "format: a text that has a fault"
     # Where these two alone are asked and tell a fault of the steps file, no command tells one of the source.
     return None if len(told) < 2 else "the commands tell different faults"
 
@@ -460,4 +574,5 @@ def main():
     sys.exit(1 if failed else 0)
 
 
-main()
+if __name__ == "__main__":
+    main()

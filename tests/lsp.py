@@ -92,10 +92,10 @@ class Session:
             self.code = 0 if self.phase == "shut down" else 1
             return None
         if "id" in message:
-            return self.request(whom, method)
+            return self.request(whom, method, message.get("params"))
         return self.notification(method, message.get("params")) if self.phase == "running" else None
 
-    def request(self, whom, method):
+    def request(self, whom, method, _params):
         if self.phase == "new":
             if method != "initialize":
                 return self.failure(whom, -32002)

@@ -3,6 +3,7 @@
  * FAIL_GROWTH=N, FAIL_READ=N, FAIL_WRITE=N: the N-th call of malloc or realloc, of read, or of write fails, counted
  * from 1 and from the first one that the program's own code makes: calls before its `main` neither fail nor count, nor do
  * calls of realloc that the block has room for, as those that give memory back: no growth is refused there.
+ * FAIL_LASTING=1: each growth after the failing one fails too.
  * FAIL_COUNTS=FILE: when the program ends, the numbers of the three kinds of calls are written there.
  */
 #define _GNU_SOURCE
@@ -17,7 +18,7 @@
 enum kind { GROWTH, READ, WRITE, KINDS };
 
 static unsigned long counted[KINDS], failing[KINDS];
-static int is_counting;
+static int is_counting, is_lasting;
 static void *(*real_malloc)(size_t);
 static void *(*real_realloc)(void *, size_t);
 static ssize_t (*real_read)(int, void *, size_t);
@@ -31,7 +32,9 @@ static void find(void) {
 }
 
 static int fails(enum kind kind) {
-    return is_counting && __atomic_add_fetch(&counted[kind], 1, __ATOMIC_SEQ_CST) == failing[kind];
+    unsigned long number = is_counting ? __atomic_add_fetch(&counted[kind], 1, __ATOMIC_SEQ_CST) : 0;
+    int is_later = is_lasting && kind == GROWTH && failing[kind] > 0 && number > failing[kind];
+    return number > 0 && (number == failing[kind] || is_later);
 }
 
 static void tell(void) {
@@ -53,6 +56,7 @@ __attribute__((constructor)) static void begin(void) {
         const char *number = getenv(names[kind]);
         failing[kind] = number ? strtoul(number, NULL, 10) : 0;
     }
+    is_lasting = getenv("FAIL_LASTING") != NULL;
     atexit(tell);
     is_counting = 1;
 }
