@@ -16,7 +16,7 @@ pools that are none of a member, and any number.
 - No sanitizer reports anything, and a trap is from 0 to 7.
 
 A call that goes round for ever is left out, and its section is called with small numbers alone from then on; after four of
-them it is called no more. The last lines are the numbers of calls by their traps, and 'N passed, M failed', of histories; exit status 1 where M is not 0.
+them it is called no more. Without a FILE changed C files have to be found out too. The last lines are the numbers of calls by their traps, and 'N passed, M failed', of histories; exit status 1 where M is not 0.
 """
 
 import argparse
@@ -38,6 +38,13 @@ from stress import POOL, ROOM, Refused, sections_of  # noqa: E402
 SANITIZED = ["-O1", "-g", "-fsanitize=address,undefined", "-fno-sanitize-recover=all"]
 COMPILERS = [["gcc", *SANITIZED], ["clang", "-O2"], ["clang", *SANITIZED]]
 LENGTH = re.compile(r"\[(\d+)\];$", re.M)
+# Changes of a C file that have to be found: what is changed, and into what.
+CHANGES = [
+    ("#ifdef AL_CHECK\n  if", "#if 0\n  if"),
+    (" % sizeof *p == 0;", " % 8 == 0;"),
+    ("AL_TRAP(7)", "AL_TRAP(1)"),
+    ("  if (p == NULL) return 1;\n", "  if (p == NULL) return 0;\n"),
+]
 ROUND = 2000  # calls of one history
 SPINS = 4  # calls of a section that go round for ever, until it is called no more
 CALLER = r"""#include <pthread.h>
@@ -212,13 +219,13 @@ def ran(words, seconds=600):
 class Subject:
     """A program and its caller, in a folder of their own."""
 
-    def __init__(self, binary, source, folder, compiler):
+    def __init__(self, binary, source, folder, compiler, change=("", "")):
         self.binary, self.source, self.folder = binary, source, pathlib.Path(folder)
         for name, words in (("program.c", []), ("program.h", ["--header"])):
             emitted = ran([binary, "emit", *words, source])
             if emitted.returncode != 0:
                 raise Refused(emitted.stderr.decode(errors="replace").strip())
-            (self.folder / name).write_bytes(emitted.stdout)
+            (self.folder / name).write_text(emitted.stdout.decode().replace(*change))
         header = (self.folder / "program.h").read_text()
         (self.folder / "caller.c").write_text(caller_of(header))
         words = [*compiler, "-std=gnu11", "-Wall", "-Wno-unused-function", "-DAL_CHECK", "-DAL_HISTORY", "-pthread"]
@@ -273,6 +280,15 @@ def try_one(part):
         return name, subject.ends, sum(subject.spun.values()), len(rounds), wrong
 
 
+def missed(binary):
+    """The changes that no call finds."""
+    for change in CHANGES:
+        with tempfile.TemporaryDirectory() as folder:
+            subject = Subject(binary, str(TOP / "examples" / "bank.al"), folder, COMPILERS[1], change)
+            if not subject.round(1, ROUND):
+                yield f"not found: {change}"
+
+
 def programs_of(told):
     for file in told.files or sorted(str(file) for file in (TOP / "examples").glob("*.al")):
         yield file, pathlib.Path(file).read_bytes()
@@ -301,6 +317,9 @@ def main():
             passed, failed = passed + histories - len(wrong), failed + len(wrong)
             for line in wrong[:3]:
                 print(f"{name}: {line}", flush=True)
+    for line in [] if told.files else missed(binary):
+        failed += 1
+        print(line)
     print(f"{sum(ends.values())} calls of {called} programs, {spun} left out; by trap {dict(sorted(ends.items()))}")
     print(f"{passed} passed, {failed} failed")
     return 1 if failed or ends[7] == 0 or ends[0] == 0 else 0

@@ -6,7 +6,7 @@ also with `--open`, of what `serial` wrote, as it is and with one byte changed.
 
     tests/hostile.py [--program BIN] [--commands NAMES] [--cuts] [--bytes] [--random COUNT] [--every N] [--seed N] [FILE..]
 
-With no choice of kinds: --cuts --bytes --random 2000, each cut and byte at every 7th place, which takes a minute.
+With no choice of kinds: --cuts --bytes --random 2000, each cut and byte at every 7th place, which takes two minutes.
 
 --commands      which of them, joined by commas (`json` is `explain --json`, `cells` is `outcomes --cells`, `worst` is
                 `schedule --worst`, `open` is `replay --open`); by default all
