@@ -121,10 +121,10 @@ class Emitted:
             raise Differs(f"listing {self.listing} but emit {self.emitted}")
         return False
 
-    def compiled(self, way, name="program"):
+    def compiled(self, way, name="program", more=()):
         begun = spent()
         self.counts["compiles"] += 1
-        status, _, told = run([*(WAYS | RECORDED)[way], "-o", self.path(f"{name}-{way}"), self.path(f"{name}.c")])
+        status, _, told = run([*(WAYS | RECORDED)[way], *more, "-o", self.path(f"{name}-{way}"), self.path(f"{name}.c")])
         if status != 0:
             raise Differs(f"{way}: {told.decode(errors='replace')}")
         if spent() - begun > SECONDS:
@@ -338,6 +338,15 @@ CHANGES = [
     (r"  e->begun = .*\n", r"  e->begun = 0;\n", "length not noted", "history"),
     (r"(?<=PRId64, )a\[2\]", "a[2] + 1", "argument", "history"),
 ]
+# Locks with which a thread lets others run while it has one, so that a circle comes also on a busy machine.
+YIELDS = b"""#include <pthread.h>
+#include <sched.h>
+#define AL_MUTEX pthread_mutex_t
+#define AL_MUTEX_OPEN(m) pthread_mutex_init((m), NULL)
+#define AL_MUTEX_CLOSE(m) pthread_mutex_destroy(m)
+#define AL_LOCK(m) (pthread_mutex_lock(m), sched_yield())
+#define AL_UNLOCK(m) pthread_mutex_unlock(m)
+"""
 CONTENDED = b"""struct Acc { lock l; int bal protected_by(l); }
 pool Acc p[2];
 init p[0].bal = 10;
@@ -369,7 +378,7 @@ def is_found(emitted, way):
         elif way == "overlaps":
             emitted.overlaps("changed")
         else:
-            program = emitted.compiled(FIRST, "changed")
+            program = emitted.compiled(FIRST, "changed", ["-include", emitted.write("yields.h", YIELDS)])
             for _ in range(20):
                 subprocess.run([program], capture_output=True, timeout=5, check=False)
         return False
