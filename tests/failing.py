@@ -75,6 +75,12 @@ def wrong_growth(_whole, ended, _names):
     return None if is_right else "a refused growth is no status 4 with its line alone"
 
 
+def wrong_growth_at_names(whole, ended, names):
+    """The same where names are split: `collect` first asks for room for several of them, and goes on without it."""
+    is_whole = not LASTING and (ended.returncode, ended.stdout, ended.stderr) == (whole.returncode, whole.stdout, whole.stderr)
+    return None if is_whole else wrong_growth(whole, ended, names)
+
+
 def wrong_growth_of_run(_whole, ended, _names):
     """The same of a run with threads, where the growth came."""
     is_whole = ended.returncode == 0 and ended.stdout.startswith(b"history 2\n") and ended.stdout.endswith(b"\nend\n")
@@ -220,7 +226,8 @@ def of_autolock(a, room):
             turns = ["--turns", str(a.turns)] * (command in ("serial", "outcomes", "replay")) + ["--count", "5"] * (command == "outcomes")
             judged = {**judges, "growth": wrong_growth_of_run} if command == "run" else judges
             for options in options_of(command, program, file):
-                yield Subject([program, command, *turns, *options, *names], names, judged, a.every)
+                at_names = {"growth": wrong_growth_at_names} if "--cells" in options else {}
+                yield Subject([program, command, *turns, *options, *names], names, judged | at_names, a.every)
             if command == "replay":
                 other = pathlib.Path(room, f"other-{number}")
                 other.write_bytes(with_other_cell(told.stdout))
