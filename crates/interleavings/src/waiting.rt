@@ -166,7 +166,7 @@ impl Contest<'_> {
             (first_to_go self.old.world.plan self.old.world.world thread from)) self.old self.new) }
     {
         // Read for its range.
-        let _threads = self.threads();
+        let _shown = self.threads();
         match self.first(thread, from) {
             Some(other) => self.go(
                 alloc,

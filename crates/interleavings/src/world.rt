@@ -243,7 +243,7 @@ pub fn run<'p>(alloc: Global, program: &'p Program, turns: &[Turn]) -> Result<Wo
     ensures headline { OnOk result (Headline program.now (steps_of turns.now)) }
 {
     worlds::laws::every_run();
-    let _typed = program.expanded();
+    let _shown = program.expanded();
     let mut world = World::open(alloc, program)?;
     world.take_turns(alloc, turns)?;
     Ok(world)

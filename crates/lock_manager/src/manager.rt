@@ -252,7 +252,7 @@ impl<'p> Manager<'p> {
         if !self.knows(ticket) {
             return false;
         }
-        let _places = &self.places;
+        let _shown = &self.places;
         let session = ticket.session();
         if session.ask().is_some() {
             return false;
@@ -400,6 +400,6 @@ impl<'p> Manager<'p> {
         ensures no_circle { HasNoCycle (askers_of self.now) }
     {
         locks::laws::no_circle();
-        let _places = &self.places;
+        let _shown = &self.places;
     }
 }

@@ -78,7 +78,7 @@ impl Sections {
     pub fn are_none(&self) -> bool
         ensures { IsTrue result ↔ ((t : ℕ) → session_in self.now t ≡ None) }
     {
-        let _slots = &self.slots;
+        let _shown = &self.slots;
         for thread in 0..64u32 {
             if self.of(thread).is_some() {
                 return false;
@@ -141,7 +141,7 @@ impl Sections {
     pub fn holder(&self, lock: Lock) -> Option<u32>
         ensures { MatchOption result ((t : ℕ) → Holds self.now t lock → ⊥) (λ t. Holds self.now t lock) }
     {
-        let _slots = &self.slots;
+        let _shown = &self.slots;
         for thread in 0..64u32 {
             if self.holds(thread, lock) {
                 return Some(thread);

@@ -88,7 +88,7 @@ impl Nodes {
         requires b { b < length self.now }
         ensures { result ≡ same_stable (get_or self.now a nowhere) (get_or self.now b nowhere) }
     {
-        let _steps = &self.steps;
+        let _shown = &self.steps;
         a == b
     }
 

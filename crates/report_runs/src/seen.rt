@@ -40,7 +40,7 @@ fn numbered<T: Eq + Hash + Drop>(
     ensures number { IfOk result (λ number. number ≡ insert_index T.eq set.old value + 1) }
 {
     let (place, _) = set.insert_full(value)?;
-    let _few = set.len();
+    let _shown = set.len();
     Ok(place + 1)
 }
 

@@ -69,7 +69,7 @@ impl<'p> Open<'p> {
     {
         worlds::laws::sections_stay_in_order();
         let body = &mut *self.body;
-        let _code = self.program.code();
+        let _shown = self.program.code();
         let asker = Asker {
             program: self.program,
             section: body.section,
@@ -91,7 +91,7 @@ impl<'p> Open<'p> {
         worlds::laws::sections_stay_in_order();
         let instruction = self.instruction();
         let body = &mut *self.body;
-        let _code = self.program.code();
+        let _shown = self.program.code();
         match body
             .machine
             .step(&self.program.expanded().shape, instruction)
@@ -157,7 +157,7 @@ impl<'p> Open<'p> {
     pub(crate) fn keeps_its_rules(&self)
         ensures { IsOpen self.now }
     {
-        let _ticket = &self.ticket;
+        let _shown = &self.ticket;
     }
 
     // Whether the next step is an instruction: no lock is pending.

@@ -654,6 +654,6 @@ impl<'p> Ended<'p> {
         ensures true_entry { HasTrueEntry self.now }
     {
         worlds::laws::sections_stay_in_order();
-        let _body = &self.body;
+        let _shown = &self.body;
     }
 }

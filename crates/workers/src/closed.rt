@@ -45,7 +45,7 @@ impl<'p> Closed<'p> {
     pub fn keeps_its_rules(&self)
         ensures { IsQuiet self.now }
     {
-        let _manager = &self.manager;
+        let _shown = &self.manager;
     }
 }
 

@@ -70,7 +70,7 @@ impl<'p, 'r, J: Naming> Guarded<'p, 'r, J> {
         ensures { IfOk result (λ g. g ≡ opened J.plan.layout J.plan.ranks) }
     {
         worlds::laws::worlds_stay_ready();
-        let _typed = program.expanded();
+        let _shown = program.expanded();
         let manager = Manager::open(alloc, program.layout(), program.ranks())?;
         let ends = LockEnds::of(alloc, program.layout())?;
         Ok(Guarded { manager, log, ends })

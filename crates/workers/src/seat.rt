@@ -109,6 +109,6 @@ impl<'p, 'r, J: Naming> Seat<'p, 'r, J> {
     pub fn keeps_its_rules(&self)
         ensures { IsSound J.plan self.now.seen }
     {
-        let _ready = &self.ready;
+        let _shown = &self.ready;
     }
 }

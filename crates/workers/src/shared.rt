@@ -205,7 +205,7 @@ impl<'p, 'r, J: Naming> Shared<'p, 'r, J> {
         history::laws::legal_is_serial();
         lowering::laws::compiled_run_alike();
         core_lang::laws::writing_out_changes_nothing();
-        let _typed = self.program.expanded();
+        let _shown = self.program.expanded();
         core_lang_helpers::laws::no_run_prints_more();
         let (room, running) = self.begin(rt, ready, request)?;
         gate.pass(request.thread, 0);
@@ -382,7 +382,7 @@ impl<'p, 'r, J: Naming> Shared<'p, 'r, J> {
             wakings: _,
             print_rooms: _,
         } = self;
-        let _typed = program.expanded();
+        let _shown = program.expanded();
         let Some((manager, log)) = guarded.into_inner().into_parts() else {
             return Err(Strange);
         };

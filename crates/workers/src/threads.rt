@@ -63,7 +63,7 @@ fn run_named<'p, 'r, J: Naming + Send + Sync, R: Threads + Wait + Sync, G: Gate>
         IfOk result (λ c. (t : ℕ) → t < count → HasScript J.plan c.history t) }
     ensures nobody_else { IfOk result (λ c. AreOfScripts J.plan c.history) }
 {
-    let _typed = program.expanded();
+    let _shown = program.expanded();
     let count = program.threads();
     if count > 64 {
         return Err(CallRefusal::Strange);

@@ -55,8 +55,8 @@ pass-requires c =
       pending = ap (λ (o : OpenOf). o.activation.pending) c.self.view_is ∙ c.requires.pending;
       outcome = refl;
     } in
-    let code = c.code-code.result.now in
-    let of = c.code-code.ensures in
+    let code = c.code-shown.result.now in
+    let of = c.code-shown.ensures in
     let h = has_code o code r.is_open of in
     let same : c.deref_mut-body.result.now.machine.machine.place ≡ o.activation.machine.place =
     ap (λ (b : SectionFrame). b.machine.machine.place) same_body in

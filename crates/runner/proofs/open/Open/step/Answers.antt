@@ -36,13 +36,13 @@ step-requires-clause-fits c =
     subst (λ (o : OpenOf). next_effect o.plan o.activation
     ≡ act load_held store_held o.plan.program.shape (Some i) o.activation.machine) (sym c.self.view_is) c.instruction-instruction.ensures in
     let effect = is ∙ ap (λ (t : Typed). act load_held store_held t.shape (Some i) b.machine.machine) (sym typed) in
-    let of = c.code-code.ensures in
+    let of = c.code-shown.ensures in
     subst (λ (b : SectionFrame). FitsRoom b.machine.operand_room (act load_held store_held c.expanded.result.now.shape (Some i) b.machine.machine))
     (sym same_body)
     (subst (λ (room : ℕ). FitsRoom room (act load_held store_held c.expanded.result.now.shape (Some i) b.machine.machine))
     (sym c.self.invariant.0.operands)
     (subst (λ (e : Effect HeldCells). FitsRoom o.room.operands e) effect
-    (next_fits o c.code-code.result.now c.sections_stay_in_order.ensures of r)))
+    (next_fits o c.code-shown.result.now c.sections_stay_in_order.ensures of r)))
 
 pub invariant_of-self : goal.invariant_of-self
 invariant_of-self c =

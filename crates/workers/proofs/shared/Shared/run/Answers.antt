@@ -20,7 +20,7 @@ returns-in-Ok-finish-clause-answer g c =
 
 pub returns-in-Ok-finish-clause-accepted : goal.returns-in-Ok-finish-clause-accepted
 returns-in-Ok-finish-clause-accepted g c =
-    let compiled = subst IsCompiled c.args.self.now.is c.expanded-typed.ensures.compiled in
+    let compiled = subst IsCompiled c.args.self.now.is c.expanded-shown.ensures.compiled in
     answered_as_accepted g.J.Naming.plan c.in-Ok-finish.position c.args.request.section (length c.args.seen.now) c.args.request.arguments.now c.args.ready _ _ _ _
     c.legal_is_serial.ensures c.compiled_run_alike.ensures c.writing_out_changes_nothing.ensures.serial compiled c.requires.fits
     c.in_ok-room.ensures.ok c.in-Ok.ensures.ok c.entry.ensures
