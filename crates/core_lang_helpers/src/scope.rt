@@ -146,7 +146,7 @@ impl WrittenScope {
     fn operations(&self, operations: &[Operation]) -> Result<Vec<Operation>, NotWrittenOut>
         ensures { IfOk result (λ made. RenamesOperations (pairs_of self.now) operations.now made.items) }
     {
-        let mut made = Vec::new(self.alloc);
+        let mut made = Vec::with_capacity(self.alloc, operations.len())?;
         for operation in operations {
             let operand = self.expr(&operation.operand)?;
             made.push(Operation {
@@ -193,7 +193,7 @@ impl WrittenScope {
     fn conditions(&self, conditions: &[Condition]) -> Result<Vec<Condition>, NotWrittenOut>
         ensures { IfOk result (λ made. RenamesConditions (pairs_of self.now) conditions.now made.items) }
     {
-        let mut made = Vec::new(self.alloc);
+        let mut made = Vec::with_capacity(self.alloc, conditions.len())?;
         for condition in conditions {
             made.push(self.condition(condition)?)?;
         }
