@@ -21,14 +21,14 @@ use Rattle.report_runs.specs.declared.run_kind.Place.{Place}
 use Rattle.report_runs.specs.declared.seen.Seen.{Seen}
 use Rattle.report_runs.specs.declared.runs_told.Told.{Told}
 use Rattle.report_runs.specs.Runs.{Run, same_place, same_value, same_order, same_end, same_kind, firsts, with_first, number_of, run_text, runs_text}
-use Rattle.report_runs.specs.Working.Heads.{head_text}
-use Rattle.report_runs.specs.Working.Kinds.{place_of, held_of}
+use Rattle.report_runs.specs.Working.Heads.{totals_text}
+use Rattle.report_runs.specs.Working.Kinds.{call_place, held_of}
 use Rattle.report_runs.specs.Working.Rows.{Row, row_of, row_told, row_text}
 use Rattle.report_runs.specs.Working.Seeing.{HasSeen, Shown, kind_in, kind_shown, order_in, end_in}
 use Rattle.report_runs.proofs.Firsts.{any_shown, place_shown, keyed_with}
 use Rattle.report_runs.proofs.Laws.{pointwise_shown}
 
-place_agrees : (x y : Commit) → same_place x y ≡ place.ghosts.eq (place_of x) (place_of y)
+place_agrees : (x y : Commit) → same_place x y ≡ place.ghosts.eq (call_place x) (call_place y)
 place_agrees x y = refl
 
 value_agrees : (x y : Value) → same_value x y ≡ held.ghosts.eq (held_of x) (held_of y)
@@ -38,7 +38,7 @@ value_agrees (Ref a) (Int b) = refl
 value_agrees (Ref a) (Ref b) = refl
 
 order_agrees : (x y : Run) → same_order x y ≡ pointwise place.ghosts.eq (order_in x) (order_in y)
-order_agrees x y = pointwise_shown place.ghosts.eq same_place place_of place_agrees x.log y.log
+order_agrees x y = pointwise_shown place.ghosts.eq same_place call_place place_agrees x.log y.log
 
 end_agrees : (x y : Run) → same_end x y ≡ pointwise held.ghosts.eq (end_in x) (end_in y)
 end_agrees x y = pointwise_shown held.ghosts.eq same_value held_of value_agrees x.values y.values
@@ -129,7 +129,7 @@ told_raised items place told new is raised at same =
 
 pub text_of : (program : Typed) (runs : List Run) (seen : Seen) → HasSeen program runs seen → (out head : List ℕ) (orders ends n : ℕ) →
     orders ≡ length seen.orders.keys → ends ≡ length seen.ends.keys → length seen.told.items ≤ n →
-    head ≡ head_text seen.runs orders ends →
+    head ≡ totals_text seen.runs orders ends →
     out ≡ head ++ flat_map row_text (map row_told (take n seen.told.items)) → out ≡ runs_text program runs
 text_of program runs seen has out head orders ends n o e all first is =
     let rows : map row_told (take n seen.told.items) ≡ map (row_of program runs) (firsts same_kind runs) =
@@ -138,8 +138,8 @@ text_of program runs seen has out head orders ends n o e all first is =
     o ∙ sym (length-map seen.orders.keys (λ order. order.items)) ∙ ap length has.orders ∙ length-map (firsts same_order runs) order_in in
     let as_many : ends ≡ length (firsts same_end runs) =
     e ∙ sym (length-map seen.ends.keys (λ end. end.items)) ∙ ap length has.ends ∙ length-map (firsts same_end runs) end_in in
-    let whole : head ≡ head_text (length runs) (length (firsts same_order runs)) (length (firsts same_end runs)) =
-    first ∙ (λ j. head_text (has.counted j) (so_many j) (as_many j)) in
+    let whole : head ≡ totals_text (length runs) (length (firsts same_order runs)) (length (firsts same_end runs)) =
+    first ∙ (λ j. totals_text (has.counted j) (so_many j) (as_many j)) in
     let kinds : flat_map row_text (map row_told (take n seen.told.items)) ≡ flat_map (λ run. row_text (row_of program runs run)) (firsts same_kind runs) =
     ap (flat_map row_text) rows ∙ flat_map-map row_text (row_of program runs) (firsts same_kind runs) in
     is ∙ (λ i. whole i ++ kinds i) ∙ simp append_assoc

@@ -1,6 +1,6 @@
 -- The cells that the names of an expectation stand for, and the names that do not stand for a sum.
-use Rattle.std.specs.Prelude.{◌≡◌, ℕ, Bool, true, false, not, ◌&&◌, List, [], ◌∷◌, ◌++◌, map, Contains}
-use Rattle.std.specs.List.{flat_map, list_all, list_any}
+use Rattle.std.specs.Prelude.{◌≡◌, ℕ, Bool, true, false, not, ◌&&◌, List, [], ◌∷◌, ◌++◌, map, Option, Some}
+use Rattle.std.specs.List.{find, flat_map, list_all, list_any}
 use Rattle.core_lang.specs.declared.value.ValueType.{ValueType}
 use Rattle.core_lang.specs.declared.value.ValueType.TheVariants.{Integer, Reference}
 use Rattle.core_lang.specs.declared.typed.Cell.{Cell}
@@ -22,12 +22,12 @@ names_of_amount (the_number n) = []
 names_of_amount (the_name text) = text ∷ []
 
 -- the names in a sum, in order
-abbrev pub names_in : List Part → List (List ℕ)
-names_in parts = flat_map (λ (part : Part). names_of_amount part.amount) parts
+abbrev pub sum_names : List Part → List (List ℕ)
+sum_names parts = flat_map (λ (part : Part). names_of_amount part.amount) parts
 
 -- the names on both sides of an expectation
 abbrev pub names_of : Said → List (List ℕ)
-names_of said = names_in said.left ++ names_in said.right
+names_of said = sum_names said.left ++ sum_names said.right
 
 -- the type is of references
 abbrev pub is_reference_type : ValueType → Bool
@@ -51,9 +51,13 @@ abbrev pub IsBadName : Typed → List ℕ → BadName → Type 0
 IsBadName program name (Unknown bad) = (bad.now ≡ name) × (is_known program name ≡ false)
 IsBadName program name (NoNumber bad) = (bad.now ≡ name) × (has_reference program name ≡ true)
 
--- one of these names does not stand for a sum
+-- the first of these names that does not stand for a sum, if one doesn't
+abbrev pub first_bad : Typed → List (List ℕ) → Option (List ℕ)
+first_bad program names = find (λ name. not (is_numeric program name)) names
+
+-- the first of these names that does not stand for a sum is this one
 abbrev pub IsBadAmong : Typed → List (List ℕ) → BadName → Type 0
-IsBadAmong program names bad = (name : List ℕ) × Contains names name × IsBadName program name bad
+IsBadAmong program names bad = (name : List ℕ) × (first_bad program names ≡ Some name) × IsBadName program name bad
 
 -- ---- sums
 

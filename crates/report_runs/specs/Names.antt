@@ -1,9 +1,9 @@
 -- The cells that a name stands for: the cell that is written like the name, or the cells that are written like the name
 -- followed by an index or a field. `n` is a global, `a` an array, `a[0]` an element, `p` a pool, `p[1]` an object,
 -- `p[1].x` a field of the object.
-use Rattle.std.specs.Prelude.{◌≡◌, ℕ, ◌+◌, Bool, true, false, ◌&&◌, ◌||◌, if◌then◌else◌, nat_eq, List, [], ◌∷◌, ◌++◌, Contains}
+use Rattle.std.specs.Prelude.{◌≡◌, ℕ, ◌+◌, Bool, true, false, not, ◌&&◌, ◌||◌, if◌then◌else◌, nat_eq, List, [], ◌∷◌, ◌++◌}
 use Rattle.std.specs.Prelude.{Option, Some, None}
-use Rattle.std.specs.List.{list_all, list_any, slice_split}
+use Rattle.std.specs.List.{find, list_all, list_any, slice_split}
 use Rattle.core_lang.specs.declared.typed.Cell.{Cell}
 use Rattle.core_lang.specs.declared.typed.Typed.{Typed}
 use Rattle.outcomes.specs.declared.outcome.Cells.{Cells}
@@ -50,7 +50,11 @@ AreAsked program (Some names) Every = ⊥
 AreAsked program (Some names) (These numbers) =
     (list_all (is_known program) names ≡ true) × (numbers.items ≡ numbers_from program names 0 program.cells.items)
 
--- the name is one of the given ones, and does not stand for a cell
+-- the first of these names that does not stand for a cell, if one doesn't
+abbrev pub first_unknown : Typed → List (List ℕ) → Option (List ℕ)
+first_unknown program names = find (λ name. not (is_known program name)) names
+
+-- names are given, and this is the first of them that does not stand for a cell
 abbrev pub IsUnknownIn : Typed → Option (List (List ℕ)) → List ℕ → Type 0
 IsUnknownIn program None name = ⊥
-IsUnknownIn program (Some names) name = Contains names name × (is_known program name ≡ false)
+IsUnknownIn program (Some names) name = first_unknown program names ≡ Some name

@@ -48,9 +48,9 @@ unless left_out text = if left_out then [] else text
 -- ---- cells
 
 -- the number of the cell at this place among the cells that are asked for
-abbrev pub number_in : Cells → ℕ → ℕ
-number_in Every place = place
-number_in (These numbers) place = slice_index numbers.items place
+abbrev pub asked_number : Cells → ℕ → ℕ
+asked_number Every place = place
+asked_number (These numbers) place = slice_index numbers.items place
 
 -- CELL VALUE
 abbrev pub cell_text : Typed → ℕ → Value → List ℕ
@@ -60,7 +60,7 @@ cell_text program number value = option_map_or (λ cell. line (cell_line program
 abbrev pub cell_texts : Typed → Cells → List Value → ℕ → List Value → List ℕ
 cell_texts program cells first place [] = []
 cell_texts program cells first place (value ∷ values) =
-    unless (option_map_or (is_value value) (slice_get first place) false) (cell_text program (number_in cells place) value)
+    unless (option_map_or (is_value value) (slice_get first place) false) (cell_text program (asked_number cells place) value)
     ++ cell_texts program cells first (place + 1) values
 
 -- ---- answers

@@ -1,8 +1,8 @@
 //! The cells that a name stands for.
 
-ghost use Rattle.std.specs.Prelude.{◌≡◌, true, false, IfOk, MatchResult, Contains, MatchOption, map, option_map};
+ghost use Rattle.std.specs.Prelude.{◌≡◌, true, Some, IfOk, MatchResult, MatchOption, map, option_map};
 ghost use Rattle.std.specs.List.{list_all, list_any};
-ghost use Rattle.report_runs.specs.Names.{goes_on, is_named, is_known, numbers_from, names_in, names_together, AreAsked, IsUnknownIn};
+ghost use Rattle.report_runs.specs.Names.{goes_on, is_named, is_known, first_unknown, numbers_from, names_in, names_together, AreAsked, IsUnknownIn};
 
 use core_lang::typed::{Cell, Typed};
 use outcomes::outcome::Cells;
@@ -72,7 +72,7 @@ fn unknown<'n>(
 ) -> Result<Option<&'n str>, AllocError>
     ensures { IfOk result (λ name. MatchOption name
         (list_all (is_known program.now) (map (λ name. name.now) names.now) ≡ true)
-        (λ name. Contains (map (λ name. name.now) names.now) name.now × (is_known program.now name.now ≡ false))) }
+        (λ name. first_unknown program.now (map (λ name. name.now) names.now) ≡ Some name.now)) }
 {
     for name in names {
         if !is_known(alloc, program, name)? {

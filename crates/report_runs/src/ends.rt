@@ -10,7 +10,7 @@ ghost use Rattle.locks.specs.Texts.{AddsText};
 ghost use Rattle.outcomes.specs.Ends.{told_of};
 ghost use Rattle.report.specs.Entry.{scheduled_called};
 ghost use Rattle.report_runs.specs.Outcomes.{order_text, end_text, ends_text, looked_at, head_text, count_text, outcomes_text, whole_cells_text};
-ghost use Rattle.report_runs.specs.Outcomes.{number_in, cell_text, cell_texts, answer_text, answer_texts, answers_text};
+ghost use Rattle.report_runs.specs.Outcomes.{asked_number, cell_text, cell_texts, answer_text, answer_texts, answers_text};
 ghost use Rattle.report_runs.specs.Outcomes.{is_outcome, nothing, unless};
 ghost use Rattle.report.specs.Values.{is_value};
 ghost use Rattle.report_runs.specs.Working.Known.{left_known};
@@ -111,8 +111,8 @@ fn push_count(out: &mut String, scope: Scope, count: u64) -> Result<(), AllocErr
 }
 
 /// The number of the cell at `place` among the cells that are asked for.
-fn number_in(cells: &Cells, place: usize) -> usize
-    ensures { result ≡ number_in cells.now place }
+fn asked_number(cells: &Cells, place: usize) -> usize
+    ensures { result ≡ asked_number cells.now place }
 {
     match cells {
         Cells::Every => place,
@@ -185,12 +185,12 @@ impl Ends<'_> {
         value: Value,
     ) -> Result<(), AllocError>
         ensures { OnOk result (AddsText (unless (option_map_or (is_value value) (slice_get known.now place) false)
-            (cell_text self.now.program.now (number_in self.now.asked.now.cells place) value)) out.old out.new) }
+            (cell_text self.now.program.now (asked_number self.now.asked.now.cells place) value)) out.old out.new) }
     {
         if has_value(known, place, value) {
             return Ok(());
         }
-        self.push_cell(out, number_in(&self.asked.cells, place), value)
+        self.push_cell(out, asked_number(&self.asked.cells, place), value)
     }
 
     /// Appends a line for each value that `known` does not have.

@@ -3,7 +3,7 @@
 ghost use Rattle.std.specs.Prelude.{◌≡◌, ◌++◌, true, IfOk, OnOk, MatchOption, MatchResult, map};
 ghost use Rattle.std.specs.List.{flat_map, list_all};
 ghost use Rattle.report_runs.specs.ExpectationTexts.{part_of, said_of};
-ghost use Rattle.report_runs.specs.ExpectationCells.{is_reference, has_reference, is_numeric, names_in, names_of, addends_of, IsResolved, IsBadName, IsBadAmong};
+ghost use Rattle.report_runs.specs.ExpectationCells.{is_reference, has_reference, is_numeric, sum_names, names_of, addends_of, IsResolved, IsBadName, IsBadAmong};
 
 use crate::cell_names::{is_known, is_named, numbers_of};
 use crate::comparison::{Addend, Comparison, Quantity};
@@ -82,7 +82,7 @@ fn bad_among<'t>(
 /// Appends the names of a sum.
 fn push_names<'t>(names: &mut Vec<&'t str>, terms: &[Term<'t>]) -> Result<(), AllocError>
     ensures { OnOk result (map (λ name. name.now) names.new.items
-        ≡ map (λ name. name.now) names.old.items ++ names_in (map part_of terms.now)) }
+        ≡ map (λ name. name.now) names.old.items ++ sum_names (map part_of terms.now)) }
 {
     for term in terms {
         match term.item {

@@ -1,7 +1,7 @@
 //! The kinds of runs.
 
 ghost use Rattle.std.specs.Prelude.{◌≡◌, IfOk, map};
-ghost use Rattle.report_runs.specs.Working.Kinds.{held_of, place_of};
+ghost use Rattle.report_runs.specs.Working.Kinds.{held_of, call_place};
 
 use core_lang::value::Value;
 use history::entries::History;
@@ -33,7 +33,7 @@ pub(crate) struct RunKind {
 
 /// The order of the calls of a history.
 pub(crate) fn order_of(alloc: Global, history: &History) -> Result<Vec<Place>, NoMemory>
-    ensures { IfOk result (λ order. order.items ≡ map place_of history.now.commits) }
+    ensures { IfOk result (λ order. order.items ≡ map call_place history.now.commits) }
 {
     let mut order = Vec::with_capacity(alloc, history.len())?;
     for position in 0..history.len() {

@@ -2,7 +2,7 @@
 
 ghost use Rattle.std.specs.Prelude.{◌≡◌, ◌+◌, OnOk};
 ghost use Rattle.locks.specs.Texts.{AddsText};
-ghost use Rattle.report_runs.specs.Working.Heads.{head_text};
+ghost use Rattle.report_runs.specs.Working.Heads.{totals_text};
 
 use source::memory::NoMemory;
 use std::alloc::AllocError;
@@ -54,7 +54,7 @@ pub(crate) fn push_head(
     orders: usize,
     ends: usize,
 ) -> Result<(), AllocError>
-    ensures { OnOk result (AddsText (head_text runs orders ends) out.old out.new) }
+    ensures { OnOk result (AddsText (totals_text runs orders ends) out.old out.new) }
 {
     write!(out, "runs {runs}\n")?;
     write!(out, "orders {orders}\n")?;

@@ -4,6 +4,6 @@ use Rattle.std.specs.Fmt.{decimal}
 use Rattle.code.specs.Listing.{line}
 
 -- how many runs, orders and ends there are
-abbrev pub head_text : ℕ → ℕ → ℕ → List ℕ
-head_text runs orders ends =
+abbrev pub totals_text : ℕ → ℕ → ℕ → List ℕ
+totals_text runs orders ends =
     line (codes "runs " ++ decimal runs) ++ line (codes "orders " ++ decimal orders) ++ line (codes "ends " ++ decimal ends)

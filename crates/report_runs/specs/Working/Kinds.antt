@@ -6,8 +6,8 @@ use Rattle.report_runs.specs.declared.run_kind.Place.{Place}
 use Rattle.report_runs.specs.declared.run_kind.Held.{Held}
 use Rattle.report_runs.specs.declared.run_kind.Held.TheVariants.{Number, Object}
 
-abbrev pub place_of : Commit → Place
-place_of c = record { thread = c.thread; step = c.step }
+abbrev pub call_place : Commit → Place
+call_place c = record { thread = c.thread; step = c.step }
 
 abbrev pub held_of : Value → Held
 held_of (Int number) = Number number

@@ -7,12 +7,12 @@ use Rattle.report_runs.specs.declared.run_kind.RunKind.{RunKind}
 use Rattle.report_runs.specs.declared.run_kind.Place.{Place}
 use Rattle.report_runs.specs.declared.seen.Seen.{Seen}
 use Rattle.report_runs.specs.Runs.{Run, same_order, same_end, same_kind, firsts}
-use Rattle.report_runs.specs.Working.Kinds.{held_of, place_of}
+use Rattle.report_runs.specs.Working.Kinds.{held_of, call_place}
 use Rattle.report_runs.specs.Working.Rows.{row_told, row_of}
 
 -- the order and the end of a run, as the code has them
 abbrev pub order_in : Run → List Place
-order_in run = map place_of run.log
+order_in run = map call_place run.log
 
 abbrev pub end_in : Run → List Held
 end_in run = map held_of run.values
