@@ -72,7 +72,7 @@ annotated place lock =
 
 -- ---- an unexpected token
 
--- the advice that a `;` may be missing after a token, and that a `;` may be left out
+-- the advice that a `;` may be missing after a token
 abbrev pub MISSING : List ℕ
 MISSING = advised.words advice.Semicolon
 

@@ -20,8 +20,8 @@ abbrev pub line_end : List ℕ → ℕ → ℕ
 line_end text at = let here = min at (length text) in here + prefix_len is_in_line (drop here text)
 
 -- {"contents":{"kind":"plaintext","value":LINES},"range":RANGE}, from the statement's start to its line's end
-abbrev pub hover_data : List ℕ → ℕ → List (List ℕ) → Data
-hover_data text start lines =
+abbrev pub statement_hover : List ℕ → ℕ → List (List ℕ) → Data
+statement_hover text start lines =
     object (member (codes "contents")
     (object (member (codes "kind") (string (codes "plaintext"))
     (member (codes "value") (string (flat_map line lines)) no_members)))
@@ -30,12 +30,12 @@ hover_data text start lines =
 -- the hover on the statement that starts at this byte, if there is one
 abbrev pub told_at : List ℕ → Plan → List (List (List ℕ)) → Option ℕ → Data
 told_at text plan held None = null
-told_at text plan held (Some start) = hover_data text start (lines_of plan held start)
+told_at text plan held (Some start) = statement_hover text start (lines_of plan held start)
 
 -- the text is accepted, and the hover lists the locks that are held at the statement at the position; or it has a
 -- fault, and the hover is null
-pub data IsHoverOf (text : List ℕ) (position : Position) (told : Data) : Type 0 where
+pub data IsStatementHoverOf (text : List ℕ) (position : Position) (told : Data) : Type 0 where
   accepted : (plan : Plan) (held : List (List (List ℕ))) → Accepts text plan.accepted → IsCompiled plan →
       AreHeld plan.program plan.ranks held → told ≡ told_at text plan held (statement_at text plan.program position) →
-      IsHoverOf text position told
-  refused : (fault : Fault) → IsOfFirstPass text fault → told ≡ null → IsHoverOf text position told
+      IsStatementHoverOf text position told
+  refused : (fault : Fault) → IsOfFirstPass text fault → told ≡ null → IsStatementHoverOf text position told

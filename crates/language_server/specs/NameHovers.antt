@@ -18,8 +18,8 @@ abbrev pub markdown : List ℕ → List ℕ → List ℕ
 markdown declared lock = line (codes "```autolock") ++ line declared ++ line (codes "```") ++ lock
 
 -- {"contents":{"kind":"markdown","value":VALUE},"range":RANGE}
-abbrev pub hover_data : Data → List ℕ → Data
-hover_data range value =
+abbrev pub name_hover : Data → List ℕ → Data
+name_hover range value =
     object (member (codes "contents")
     (object (member (codes "kind") (string (codes "markdown")) (member (codes "value") (string value) no_members)))
     (member (codes "range") range no_members))
@@ -28,7 +28,7 @@ hover_data range value =
 pub record IsNameTold (text : List ℕ) (tokens : List Token) (at declared : ℕ) (told : Data) : Type 0 where
   pub lock : List ℕ
   pub is_lock : IsLockLine text (class_of tokens declared) lock
-  pub is_told : told ≡ hover_data (name_range text tokens at) (markdown (declaration_line tokens declared) lock)
+  pub is_told : told ≡ name_hover (name_range text tokens at) (markdown (declaration_line tokens declared) lock)
 
 -- the hover of the declared name at the position; without such a name, or in a text with a lexical fault, there is no
 -- hover

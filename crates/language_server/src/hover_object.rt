@@ -67,7 +67,7 @@ fn hover_value(
     start: usize,
     lines: &BTreeSet<String>,
 ) -> Result<Value, AllocError>
-    ensures { IfOk result (λ told. view told ≡ object.hover_data text.now start (told_lines lines.now)) }
+    ensures { IfOk result (λ told. view told ≡ object.statement_hover text.now start (told_lines lines.now)) }
 {
     let value = joined(alloc, lines)?;
     let mut walker = Walker::new(text);
@@ -78,7 +78,7 @@ fn hover_value(
 /// The hover on a statement of a program.
 fn statement_value(alloc: Global, text: &[u8], statement: &Statement<'_>) -> Result<Value, NoMemory>
     ensures { IfOk result (λ told. view told
-        ≡ object.hover_data text.now statement.now.start (lines_of_statement statement.now)) }
+        ≡ object.statement_hover text.now statement.now.start (lines_of_statement statement.now)) }
 {
     let lines = statement.lines(alloc)?;
     let value = hover_value(alloc, text, statement.start, &lines)?;
@@ -119,7 +119,7 @@ fn program_hover(
 ///
 /// `NoMemory`: a growth was refused.
 pub fn hover(alloc: Global, text: &str, position: Position) -> Result<Value, NoMemory>
-    ensures told { IfOk result (λ told. object.IsHoverOf text.now position (view told)) }
+    ensures told { IfOk result (λ told. object.IsStatementHoverOf text.now position (view told)) }
     ensures plain { IfOk result (λ told. has_float (view told) ≡ false) }
 {
     let bytes = text.as_bytes();

@@ -31,7 +31,7 @@ fn markdown(alloc: Global, declared: &str, lock: &str) -> Result<String, AllocEr
 
 /// The hover on `range` with the text `value`.
 fn hover_value(alloc: Global, range: Value, value: &str) -> Result<Value, AllocError>
-    ensures { IfOk result (λ told. view told ≡ hovers.hover_data (view range) value.now) }
+    ensures { IfOk result (λ told. view told ≡ hovers.name_hover (view range) value.now) }
 {
     json!(in alloc; {"contents": {"kind": "markdown", "value": value}, "range": range})
 }

@@ -4,19 +4,19 @@ use Rattle.serde_json.specs.View.{view}
 use Rattle.compiler.specs.Programs.{IsRefusal}
 use Rattle.lowering.specs.Plans.{Plan}
 use Rattle.serde_json.specs.Written.{has_float}
-use Rattle.language_server.specs.Hover.{IsHoverOf, accepted, refused, told_at}
+use Rattle.language_server.specs.Hover.{IsStatementHoverOf, accepted, refused, told_at}
 use Rattle.language_server.specs.Statements.{statement_at}
 use Rattle.language_server.proofs.hover_object.hover.Goals as goal
 
 pub returns-in-Ok-clause-told : goal.returns-in-Ok-clause-told
 returns-in-Ok-clause-told c =
-    subst (λ (text : List ℕ). IfOk c.program_hover.result (λ told. IsHoverOf text c.args.position (view told))) c.as_bytes-bytes.ensures.value
+    subst (λ (text : List ℕ). IfOk c.program_hover.result (λ told. IsStatementHoverOf text c.args.position (view told))) c.as_bytes-bytes.ensures.value
     (IfOk-weaker c.program_hover.result _ _
     (λ told is. accepted c.in-Ok.program is.0 c.in-Ok.ensures.accepts c.in-Ok.ensures.compiled is.1 is.2) c.program_hover.ensures)
 
 pub returns-clause-told : goal.returns-clause-told
 returns-clause-told c =
-    subst (λ (text : List ℕ). IsHoverOf text c.args.position (view c.null_value.result)) c.as_bytes-bytes.ensures.value
+    subst (λ (text : List ℕ). IsStatementHoverOf text c.args.position (view c.null_value.result)) c.as_bytes-bytes.ensures.value
     (refused c.in-Err-Fault.field-0-0 (subst (IsRefusal c.as_bytes-bytes.result.now) c.in-Err-Fault.field-0-is c.in-Err-Fault.ensures.fault) c.null_value.ensures)
 
 plain_at : (text : List ℕ) (plan : Plan) (held : List (List (List ℕ))) (found : Option ℕ) →
