@@ -16,7 +16,7 @@ use Rattle.outcomes.specs.Commuting.{AreIndependent}
 use Rattle.outcomes.specs.declared.outcome.Cells.{Cells}
 use Rattle.outcomes.specs.declared.search.Search.{Search}
 use Rattle.outcomes.specs.declared.search.Work.{Work}
-use Rattle.outcomes.specs.Orders.{next_call, one_more, none_done, orders_of, begun_with, calls_of}
+use Rattle.outcomes.specs.Orders.{next_call, one_more, none_done, orders, orders_of, begun_with, calls_of}
 use Rattle.outcomes.specs.Ends.{Left, Told, IsTold, AreEndsOfAll, left_by, end_from, answers_after, no_answers, opening_left, seen}
 use Rattle.outcomes.specs.Working.States.{Reached, left_with, at, nowhere}
 use Rattle.outcomes.specs.Working.Searching.{left_after, Leads, order_at, AreGood, weight, total, sum_over, Summand, as_told}
@@ -429,14 +429,15 @@ told_is search trail layer ends order are c =
 
 pub are_ends_of_all : OverIsWhole → SettledAreSerial → HaveAtMostOneSerial →
     (search : Search) (trail : List (List ℕ)) (layer : List Reached) (told : List Told) →
-    Covers search 0 layer → AreToldOfStates search trail layer told →
-    AreEndsOfAll search.program.now search.turns search.asked.now told
-are_ends_of_all law settled once search trail layer told covers is =
+    search.most < length (orders search.program.now) → Covers search 0 layer → AreToldOfStates search trail layer told →
+    AreEndsOfAll search.program.now search.turns search.most search.asked.now told
+are_ends_of_all law settled once search trail layer told more covers is =
     let program = search.program.now in
     let n = search.turns in
     let asked = search.asked.now in
     let ends = is.0 in
-    subst (AreEndsOfAll program n asked) (sym is.2) (record {
+    subst (AreEndsOfAll program n search.most asked) (sym is.2) (record {
+      more = more;
       each = all_end law search trail ends is.1.are;
       apart = ends_apart search trail ends is.1.are;
       settled = λ order there. told_is search trail layer ends order is.1 (covers order there);

@@ -123,8 +123,10 @@ pub record IsTold (program : Typed) (n : ℕ) (asked : Asked) (told : List Told)
   pub end : end_in program n asked.answers order ≡ Some left
   pub there : Any (λ (e : Told). e.left ≡ seen asked.cells left) told
 
--- the report has the ends of all orders, each once, where only some orders were run, which stand for all
-pub record AreEndsOfAll (program : Typed) (n : ℕ) (asked : Asked) (told : List Told) : Type 0 where
+-- the report has the ends of all orders, each once, where only some orders were run, which stand for all, since the
+-- program has more than `most` orders
+pub record AreEndsOfAll (program : Typed) (n most : ℕ) (asked : Asked) (told : List Told) : Type 0 where
+  pub more : most < length (orders program)
   -- each end is that of its reported order
   pub each : All (IsEndOf program asked) told
   -- no two ends are equal
@@ -205,6 +207,6 @@ abbrev pub Finds : Typed → ℕ → ℕ → Asked → Found → Type 0
 Finds program n most asked (found.All ends configurations) =
     AreAllEnds program n asked (map told_of ends.items) × HasConfigurations program asked.answers configurations
 Finds program n most asked (found.Reduced ends configurations) =
-    AreEndsOfAll program n asked (map told_of ends.items) × HasSomeConfigurations program asked.answers configurations
+    AreEndsOfAll program n most asked (map told_of ends.items) × HasSomeConfigurations program asked.answers configurations
 Finds program n most asked (found.Drawn ends) = AreDrawnEnds program most asked (map told_of ends.items)
 Finds program n most asked (found.Unsettled order thread) = StopsAfter program n order.items thread

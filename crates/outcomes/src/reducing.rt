@@ -1,11 +1,12 @@
 //! The search over some of the orders, which stand for all (partial-order reduction).
 
-ghost use Rattle.std.specs.Prelude.{◌≡◌, [], length, map, IfOk};
+ghost use Rattle.std.specs.Prelude.{◌≡◌, ◌<◌, [], length, map, IfOk};
 ghost use Rattle.core_lang.specs.Serial.{opening_heap};
 ghost use Rattle.core_lang.specs.Typing.{HasCells};
 ghost use Rattle.core_lang.specs.WellFormed.{calls_together};
 ghost use Rattle.outcomes.specs.Commuting.{AreIndependent};
 ghost use Rattle.outcomes.specs.Ends.{told_of};
+ghost use Rattle.outcomes.specs.Orders.{orders};
 ghost use Rattle.outcomes.specs.Working.Steps.{CanSearch, IsAtWork, IsReached, AreReached, Steps, state_in};
 ghost use Rattle.outcomes.specs.Working.Reducing.{first_ready, reduced_from, reduced_from_all, FindsOrLeavesMore};
 
@@ -98,6 +99,7 @@ impl Search<'_> {
     pub(crate) fn reduced(&self, alloc: Global, groups: &[usize]) -> Result<Option<Found>, NoMemory>
         requires search { CanSearch self.now }
         requires groups { AreIndependent self.now.program.now groups.now }
+        requires more { self.now.most < length (orders self.now.program.now) }
         ensures { IfOk result (FindsOrLeavesMore self.now groups.now) }
     {
         laws::whole_within_some_turns();

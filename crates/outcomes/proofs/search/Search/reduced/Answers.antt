@@ -113,7 +113,7 @@ returns c =
     let at_end : c.loop-depth.depth ≡ c.calls-calls.result = omega arith in
     let none = none_there (calls_together program.threads.items) c.calls-calls.result c.loop-depth.depth c.calls-calls.ensures at_end in (
       are_ends_of_all c.whole_within_some_turns.ensures.over c.settled_are_serial.ensures c.at_most_one_serial.ensures search
-          c.loop-depth.work.trail c.loop-depth.layer.states _
+          c.loop-depth.work.trail c.loop-depth.layer.states _ c.requires.more
           (subst (λ (left : ℕ). Covers search left c.loop-depth.layer.states) none c.loop-depth.invariant.covers)
           c.in_ok-ends.ensures.told,
       has_some_places c.whole_within_some_turns.ensures.over program search.turns search.asked.now.answers c.loop-depth.depth
