@@ -34,7 +34,7 @@ use Rattle.c_data.specs.Types.{member_prototype}
 abbrev pub index_text : ℕ → List ℕ
 index_text index = codes "[" ++ decimal index ++ codes "]"
 
--- the pool that an object is a member of, and the struct of its members
+-- the pool that an object is a member of
 abbrev pub pool_of : Typed → ℕ → Option Pool
 pool_of program object =
     option_and_then (λ (o : Object). slice_get program.shape.pools.items o.pool)

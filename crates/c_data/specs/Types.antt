@@ -104,7 +104,7 @@ module _ (prefix : List ℕ) (program : Typed) where
   abbrev pub cell_type : ℕ → List ℕ
   cell_type cell = text_at (λ (c : Cell). type_text prefix program c.value_type) program.cells.items cell
 
-  -- a global, and an array, if the lock of a class protects it
+  -- a global, if the lock of a class protects it
   abbrev pub global_text : ℕ → GlobalVariable → List ℕ
   global_text k x =
       where_true (x.class == k) (codes "    " ++ cell_type x.cell ++ codes "x_" ++ string_bytes x.name ++ codes ";\n")

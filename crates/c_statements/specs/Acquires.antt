@@ -108,11 +108,11 @@ keep_text j k = line (codes "if (" ++ asked j ++ codes " != NULL) " ++ held k ++
 
 -- ---- in which order they are acquired
 
--- the j-th lock moves to its position among those after it, which are in order
+-- the j-th lock and the next one, of which the one with the lesser address comes first
 abbrev pub exchange_text : ℕ → List ℕ
 exchange_text j = line (codes "AL_ORDER(" ++ asked j ++ codes ", " ++ asked (j + 1) ++ codes ");")
 
--- the exchanges that move the j-th lock to its position
+-- the exchanges that move the j-th lock to its position among those after it, which are in order
 abbrev pub insert_text : ℕ → ℕ → List ℕ
 insert_text count j = upward exchange_text j (count - 1)
 
