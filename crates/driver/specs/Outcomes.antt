@@ -1,6 +1,6 @@
 -- The answers of `outcomes`.
 use Rattle.std.specs.Prelude.{◌≡◌, ℕ, List, [], ◌∷◌, ◌++◌, slice_index, Option, Some, None, option_map, option_to_list, codes}
-use Rattle.std.specs.Prelude.{true, Result, Ok, Err, Contains}
+use Rattle.std.specs.Prelude.{true, false, Result, Ok, Err}
 use Rattle.std.specs.Fmt.{decimal}
 use Rattle.code.specs.Listing.{line}
 use Rattle.core_lang.specs.declared.typed.Typed.{Typed}
@@ -9,14 +9,14 @@ use Rattle.outcomes.specs.Ends.{Told, AreAllEnds, AreEndsOfAll, AreDrawnEnds, Ha
 use Rattle.outcomes.specs.Ends.{StopsAfter, done_after}
 use Rattle.outcomes.specs.Orders.{next_call, one_more, none_done}
 use Rattle.outcomes.specs.declared.outcome.Asked.{Asked}
-use Rattle.report_runs.specs.Names.{names_together, AreAsked, IsUnknownIn}
+use Rattle.report_runs.specs.Names.{is_known, names_in, names_together, first_unknown, AreAsked}
 use Rattle.report_runs.specs.Outcomes.{outcomes_text}
 use Rattle.report_runs.specs.declared.ends.Scope.{Scope}
 use Rattle.report_runs.specs.declared.ends.Scope.TheVariants.{All as Every_order, Reduced, Drawn}
 use Rattle.report.specs.History.{unsettled_of}
 use Rattle.report_runs.specs.declared.comparison.Comparison.{Comparison}
 use Rattle.report_runs.specs.ExpectationTexts.{Said, meaning_of}
-use Rattle.report_runs.specs.ExpectationCells.{has_reference, names_of, IsResolved}
+use Rattle.report_runs.specs.ExpectationCells.{has_reference, first_bad, names_of, IsResolved}
 use Rattle.report_runs.specs.Breaches.{breach_in, expected_text}
 use Rattle.driver_words.specs.declared.line.OutcomesOptions.{OutcomesOptions}
 use Rattle.driver.specs.declared.status.Status.{Status}
@@ -94,7 +94,7 @@ pub record TellsAll (looking : OutcomesOptions) (program : Typed) (status : Stat
   pub written : out ≡ outcomes_text program asked looking.full (Every_order states) ends ++ judged program expected asked (Every_order states) ends
   pub told : err ≡ []
 
--- there are more orders than are explored, and the explored ones represent all: out reports the ends of all orders, the
+-- there are more orders than the given number, and the explored ones represent all: out reports the ends of all orders, the
 -- number of explored states, and whether the ends are as expected; err is empty
 pub record TellsReduced (looking : OutcomesOptions) (program : Typed) (status : Status) (out err : List ℕ) : Type 0 where
   pub expected : Option Expected
@@ -102,7 +102,7 @@ pub record TellsReduced (looking : OutcomesOptions) (program : Typed) (status : 
   pub asked : Asked
   pub is_asked : IsAsked looking program expected asked
   pub ends : List Told
-  pub all : AreEndsOfAll program looking.turns asked ends
+  pub all : AreEndsOfAll program looking.turns looking.count asked ends
   pub states : ℕ
   pub counted : HasSomeConfigurations program asked.answers states
   pub ended : status ≡ ended_by (breach_of expected asked ends)
@@ -134,27 +134,34 @@ no_number name = codes "autolock: " ++ name ++ codes " holds no number"
 abbrev pub no_comparison : List ℕ → ℕ → List ℕ
 no_comparison text byte = codes "autolock: --expect: " ++ text ++ codes " is not a comparison, at byte " ++ decimal byte
 
--- the names in what is expected, if something is
-abbrev pub AreExpectedNames : Option (List ℕ) → Option (List (List ℕ)) → Type 0
-AreExpectedNames None names = names ≡ None
-AreExpectedNames (Some text) names = (said : Said) × (meaning_of text ≡ Ok said) × (names ≡ Some (names_of said))
+-- the names in what is expected; none, where nothing is
+abbrev pub AreExpectedNames : Option (List ℕ) → List (List ℕ) → Type 0
+AreExpectedNames None names = names ≡ []
+AreExpectedNames (Some text) names = (said : Said) × (meaning_of text ≡ Ok said) × (names ≡ names_of said)
 
--- one of the given or expected names does not have a cell: nothing is written, and the name is reported
+-- of the expected names, and then of the given ones, this is the first bad one, and it does not stand for a cell
+pub data IsNoCell (program : Typed) (expected : List (List ℕ)) (given : Option (List ℕ)) (name : List ℕ) : Type 0 where
+  is_expected : first_bad program expected ≡ Some name → is_known program name ≡ false → IsNoCell program expected given name
+  is_given : {text : List ℕ} →
+      first_bad program expected ≡ None → given ≡ Some text → first_unknown program (names_in text) ≡ Some name →
+      IsNoCell program expected given name
+
+-- an expected or given name does not have a cell: nothing is written, and the first bad name is reported
 pub record NamesNoCell (looking : OutcomesOptions) (program : Typed) (status : Status) (out err : List ℕ) : Type 0 where
-  pub names : Option (List (List ℕ))
+  pub names : List (List ℕ)
   pub expected : AreExpectedNames (text_given looking) names
   pub name : List ℕ
-  pub unknown : IsUnknownIn program (names_together (names_given looking) names) name
+  pub first : IsNoCell program names (names_given looking) name
   pub ended : status ≡ BadInput
   pub written : out ≡ []
   pub told : err ≡ line (unknown_cell name)
 
--- a cell of an expected name holds a reference: nothing is written, and the name is reported
+-- a cell of an expected name holds a reference: nothing is written, and the first bad name is reported
 pub record NamesNoNumber (looking : OutcomesOptions) (program : Typed) (status : Status) (out err : List ℕ) : Type 0 where
   pub names : List (List ℕ)
-  pub expected : AreExpectedNames (text_given looking) (Some names)
+  pub expected : AreExpectedNames (text_given looking) names
   pub name : List ℕ
-  pub named : Contains names name
+  pub first : first_bad program names ≡ Some name
   pub reference : has_reference program name ≡ true
   pub ended : status ≡ BadInput
   pub written : out ≡ []

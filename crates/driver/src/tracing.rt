@@ -21,7 +21,7 @@ pub fn traced(alloc: Global, trace: &Trace<'_>, steps: &Named<'_>) -> Result<Ans
         trace.now.program.now)) }
 {
     worlds::laws::every_run();
-    let _typed = trace.program.expanded();
+    let _shown = trace.program.expanded();
     let turns = match turns_in(alloc, trace.program, steps.text) {
         Ok(turns) => turns,
         Err(StepsRefusal::Fault(fault)) => return bad_steps(alloc, steps, fault),
