@@ -195,9 +195,9 @@ def steps_fault(steps, threads):
     before = 0
     for item in re.finditer(rb"[^ \t\r\n]+", steps):
         parts = re.fullmatch(rb"(?:([0-9]+)|([0-9A-Za-z_]+))(?:\*([0-9]+)|([!+]))?", item.group())
-        if not parts:
+        if not parts or (parts[2] and parts[2] not in threads):
             fault = b"S1: bad item"
-        elif parts[2] not in threads if parts[2] else int(parts[1]) >= len(threads):
+        elif parts[1] and int(parts[1]) >= len(threads):
             fault = b"S2: no such thread"
         elif before + (0 if parts[4] else int(parts[3] or 1)) > 10_000_000:
             fault = b"S3: too many steps"
