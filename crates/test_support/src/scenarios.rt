@@ -17,7 +17,7 @@ const G: Lock = Lock {
 
 /// A manager of the program's locks.
 fn opened<'p>(alloc: Global, program: &'p Program) -> Result<Manager<'p>, NoMemory> {
-    let _typed = program.expanded();
+    let _shown = program.expanded();
     Manager::open(alloc, program.layout(), program.ranks())
 }
 
