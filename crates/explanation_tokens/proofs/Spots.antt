@@ -1,14 +1,14 @@
 -- Places among tokens.
 use Rattle.std.proofs.Common.{◌≡◌, ◌∙◌, ℕ, ◌+◌, ◌<◌, ◌≤◌, zero, suc, List, [], ◌∷◌, ◌++◌, length, take, get_or}
 use Rattle.std.proofs.Common.{slice_get, Some, ap, sym, subst, refl, arith}
-use Rattle.std.proofs.lemmas.List.{length-map, length-append}
+use Rattle.std.proofs.lemmas.List.{length-map, length-append, length-take}
 use Rattle.std.proofs.lemmas.List.Elements.{All-more}
 use Rattle.std.proofs.Math.ListN.{get_or-map}
 use Rattle.source.specs.declared.token.Token.{Token}
 use Rattle.source.specs.Tokens.{Tok, seen, seen_token}
 use Rattle.explanation_tokens.specs.declared.candidate.Candidate.{Candidate}
 use Rattle.explanation_tokens.specs.declared.trial.TokenPlace.{TokenPlace}
-use Rattle.explanation_tokens.specs.Expected.{AreExpected, AreThose, CanCome, IsBehind, StartBefore, all_candidates}
+use Rattle.explanation_tokens.specs.Expected.{AreExpected, AreThose, CanCome, IsBehind, READ_LIMIT, StartBefore, all_candidates}
 use Rattle.explanation_tokens.specs.Working.Trials.{IsPlace, before_in}
 
 -- ---- the place is found
@@ -115,6 +115,15 @@ are_expected tokens start place list at those =
       place = behind_place tokens start place at;
       those = subst (λ (k : ℕ). AreThose (CanCome (before_in place tokens) k) all_candidates list) at.same those;
     }
+
+-- few tokens come before a place with a low number
+pub few_expected : (tokens : List Token) (start : ℕ) (place : TokenPlace) (list : List Candidate) (at : IsPlace tokens start place)
+    (those : AreThose (CanCome (before_in place tokens) place.span.start) all_candidates list) → place.number ≤ READ_LIMIT →
+    length (are_expected tokens start place list at those).before ≤ READ_LIMIT
+unfolding are_expected
+few_expected tokens start place list at those few =
+    let short : length (before_in place tokens) ≤ READ_LIMIT = omega (arith, length-take place.number (seen tokens)) in
+    short
 
 behind_all : (before : List Tok) (t : Tok) (after : List Tok) → take (length before) (before ++ t ∷ after) ≡ before
 behind_all [] t after = refl

@@ -12,7 +12,7 @@ use Rattle.source.specs.Tokens.{Tok}
 use Rattle.explanation_tokens.specs.declared.candidate.Candidate.{Candidate}
 use Rattle.explanation_tokens.specs.declared.candidate.Candidate.TheVariants.{Name, Number, Word, Mark}
 use Rattle.explanation_tokens.specs.Expected.{AreExpected, AreThose, no_more, it_is, it_is_not, IsTrueTokenNote}
-use Rattle.explanation_tokens.specs.Expected.{AreInOrder, AreTokenNotes, IsTokenTold, all_candidates}
+use Rattle.explanation_tokens.specs.Expected.{AreInOrder, AreTokenNotes, IsTokenTold, READ_LIMIT, all_candidates}
 use Rattle.explanation_tokens.specs.Working.Trials.{notes_on}
 
 -- ---- the candidates of a list that have the property
@@ -111,11 +111,11 @@ one_told [] = omega arith
 one_told (first ∷ others) = omega arith
 
 pub true_notes : (ts : List Tok) (code : Code) (start : ℕ) (list : List Candidate) → code ≡ UnexpectedToken →
-    AreExpected ts start list →
+    (are : AreExpected ts start list) → length are.before ≤ READ_LIMIT →
     All (IsTrueTokenNote ts code start) (notes_on list)
-true_notes ts code start [] is are k d within = absurd (omega arith)
-true_notes ts code start (first ∷ others) is are zero d within = record { unexpected = is; first = first; others = others; expected = are; said = refl }
-true_notes ts code start (first ∷ others) is are (suc k) d within = absurd (omega arith)
+true_notes ts code start [] is are few k d within = absurd (omega arith)
+true_notes ts code start (first ∷ others) is are few zero d within = record { unexpected = is; first = first; others = others; expected = are; few = few; said = refl }
+true_notes ts code start (first ∷ others) is are few (suc k) d within = absurd (omega arith)
 
 -- if no note is required, none is given
 pub none_expected : (ts : List Tok) (code : Code) (start : ℕ) → (AreInOrder ts start → IsTokenTold ts code start → ⊥) →

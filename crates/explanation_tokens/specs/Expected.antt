@@ -85,17 +85,18 @@ candidate_texts others = flat_map (λ (candidate : Candidate). codes ", " ++ can
 abbrev pub expected_words : Candidate → List Candidate → List ℕ
 expected_words first others = codes "expected " ++ candidate_text first ++ candidate_texts others
 
--- a note on an unexpected token lists all kinds that can be in its place
+-- the most tokens that are read again
+abbrev pub READ_LIMIT : ℕ
+READ_LIMIT = 4096
+
+-- a note on an unexpected token with at most that many tokens before it lists all kinds that can be in its place
 pub record IsTrueTokenNote (ts : List Tok) (code : Code) (start : ℕ) (note : Note) : Type 0 where
   pub unexpected : code ≡ UnexpectedToken
   pub first : Candidate
   pub others : List Candidate
   pub expected : AreExpected ts start (first ∷ others)
+  pub few : length expected.before ≤ READ_LIMIT
   pub said : note ≡ record { start = None; words = expected_words first others }
-
--- the most tokens that are read again
-abbrev pub READ_LIMIT : ℕ
-READ_LIMIT = 4096
 
 -- a note has to be given: on an unexpected token with at most that many tokens before it, if some kind can be in its
 -- place

@@ -6,7 +6,7 @@ use Rattle.explanation_tokens.specs.Advice.{advice_on}
 use Rattle.explanation_tokens.specs.Expected.{AreInOrder, CanCome, IsBehind}
 use Rattle.explanation_tokens.specs.Working.Trials.{before_in, notes_on}
 use Rattle.explanation_tokens.proofs.Advised.{are_advised, at_most_one, none_advised}
-use Rattle.explanation_tokens.proofs.Spots.{are_expected, place_behind, before_spot, spot_behind}
+use Rattle.explanation_tokens.proofs.Spots.{are_expected, few_expected, place_behind, before_spot, spot_behind}
 use Rattle.explanation_tokens.proofs.Told.{append_nothing, none_expected, true_notes, some_told, one_told}
 use Rattle.explanation_tokens.proofs.notes.token_notes.Goals as goal
 
@@ -83,7 +83,8 @@ returns c =
       advised = are_advised tokens start c.in-Some.place at code c.in-UnexpectedToken.is;
       few = at_most_one advice;
       are_expected = record {
-        are_true = true_notes (seen tokens) code start list c.in-UnexpectedToken.is (are_expected tokens start c.in-Some.place list at c.in_ok-candidates.ensures);
+        are_true = true_notes (seen tokens) code start list c.in-UnexpectedToken.is (are_expected tokens start c.in-Some.place list at c.in_ok-candidates.ensures)
+            (few_expected tokens start c.in-Some.place list at c.in_ok-candidates.ensures (omega (arith, c.if-place-gt-MOST_READ.false)));
         few = one_told list;
         told = λ order told.
             let spot = spot_behind told.before start in

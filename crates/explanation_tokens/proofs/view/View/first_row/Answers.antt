@@ -1,4 +1,4 @@
-use Rattle.std.proofs.Common.{◌≡◌, ◌∙◌, List, [], ◌∷◌, ◌++◌, Bool, true, false, Option, Some, None, if◌then◌else◌, refl, sym, ap}
+use Rattle.std.proofs.Common.{◌≡◌, ◌∙◌, List, [], ◌∷◌, ◌++◌, Bool, true, false, Some, None, if◌then◌else◌, refl, sym}
 use Rattle.std.specs.Prelude.{find}
 use Rattle.explanation_tokens.specs.Advice.{foreign_rows, usual_rows}
 use Rattle.explanation_tokens.specs.Working.Seen.{fitting}
