@@ -1,5 +1,5 @@
 -- A section that asks for several locks in one hold of the Mutex.
-use Rattle.std.proofs.Common.{◌≡◌, ◌<◌, ℕ, List, length, sym, ap, ◌∙◌, subst, Option, Some}
+use Rattle.std.proofs.Common.{◌≡◌, ◌<◌, ℕ, List, length, sym, ap, ◌∙◌, subst, Option, Some, Result, Ok, Err, IfOk}
 use Rattle.std.specs.Prelude.{slice_get, slice_set}
 use Rattle.std.proofs.lemmas.Option.{slice_get_within}
 use Rattle.core_lang.specs.declared.value.Value.{Value}
@@ -13,10 +13,11 @@ use Rattle.lock_manager.specs.Working.Calls.{KeepsEntries, after_grant}
 use Rattle.lowering.specs.Plans.{Plan}
 use Rattle.runner.specs.declared.states.Asked.{Asked}
 use Rattle.runner.specs.declared.states.Asked.TheVariants.{Got, Waits}
-use Rattle.runner.specs.Working.Opens.{OpenOf, IsOpen, IsKnown, IsSame, Gets, session_of_open, ticket_of}
-use Rattle.runner.specs.Working.Answers.{Answered}
+use Rattle.runner.specs.Working.Opens.{OpenOf, PoisedOf, IsOpen, IsKnown, IsSame, Gets, session_of_open, ticket_of}
+use Rattle.runner.specs.Working.Answers.{Answered, GoesOnSame}
 use Rattle.runner.specs.Working.Laws.{SectionsStayPart, memory_of}
 use Rattle.workers.specs.Working.LockEnds.{asked_open}
+use Rattle.workers.specs.Working.Within.{IsBegun, IsBegunOn}
 
 pub kept-trans : (m n o : Managed) → KeepsEntries m n → KeepsEntries n o → KeepsEntries m o
 kept-trans m n o a b = record {
@@ -61,3 +62,24 @@ asked_on laws m₀ m m' o (Got next) kept known is_open answered entries part =
     subst (λ (h : List Value). IsPartOf h (memory_of o')) entries.values
     (laws.gets m m' o o' kept known.layout is_open answered (subst (λ (h : List Value). IsPartOf h (memory_of o)) (sym entries.values) part))
 asked_on laws m₀ m m' o (Waits o' holder) kept known is_open answered entries part = laws.waits m m' o o' holder m₀.values answered part
+
+-- ---- a call that has begun
+
+pub begun_on : (p : PoisedOf) (b o : OpenOf) → IsBegun p b → IsSame b o → IsBegunOn p o
+begun_on p b o begun same = record {
+  plan = same.plan ∙ begun.plan;
+  thread = same.thread ∙ begun.thread;
+  step = same.step ∙ begun.step;
+  call = same.call ∙ begun.call;
+}
+
+-- the section after an answer is the same section
+pub goes_on : (o : OpenOf) (asked : Asked) → GoesOnSame o asked → IsSame o (asked_open asked)
+goes_on o (Got next) same = same
+goes_on o (Waits o' holder) same = same
+
+-- the same of an answer that may be missing
+pub goes_on_ok : {E : Type 0} (o : OpenOf) (r : Result (Asked × ℕ) E) → IfOk r (λ (a : Asked × ℕ). GoesOnSame o a.0) →
+    IfOk r (λ (a : Asked × ℕ). IsSame o (asked_open a.0))
+goes_on_ok o (Ok a) same = goes_on o a.0 same
+goes_on_ok o (Err e) same = tt

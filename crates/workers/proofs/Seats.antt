@@ -15,7 +15,7 @@ use Rattle.workers.specs.Seats.{ReplyOf, SeatOf, AllBelow, AreBegunInTurn, Gains
 use Rattle.workers.specs.Answers.{IsAnswer, reply_at, replies_of}
 use Rattle.workers.specs.Logs.{IsSound}
 use Rattle.workers.specs.Seen.{Sees}
-use Rattle.workers.specs.Working.Within.{IsSeat, IsBegun, HasBegun, IsEntered, IsNotedOf, SeesOwn, SeesItsOwn, HasAnswer}
+use Rattle.workers.specs.Working.Within.{IsSeat, IsBegunOn, HasBegun, IsEntered, IsNotedOf, SeesOwn, SeesItsOwn, HasAnswer}
 use Rattle.workers.proofs.Passing.{replies-below, replies_more, steps_more, begun-push}
 use Rattle.workers.specs.declared.seat.Done.{Done}
 
@@ -47,14 +47,13 @@ called_within program section arguments can = slice_get_within program.sections.
 
 -- a call that was prepared and has begun
 pub has_begun : (plan named : Plan) (section : ℕ) (arguments : List Value) (ready : ReadyOf) (p : PoisedOf) (b : OpenOf) →
-    Prepares ready named (record { section = section; arguments = arguments }) p → named ≡ plan → IsBegun p b →
+    Prepares ready named (record { section = section; arguments = arguments }) p → named ≡ plan → IsBegunOn p b →
     HasBegun plan (record { section = section; arguments = arguments }) ready b
 has_begun plan named section arguments ready p b prepared is begun = record {
   plan_is = begun.plan ∙ ap (λ (q : PoisedOf). q.plan) prepared ∙ is;
   thread = begun.thread ∙ ap (λ (q : PoisedOf). q.thread) prepared;
   step = begun.step ∙ ap (λ (q : PoisedOf). q.step) prepared;
   call_is = begun.call ∙ ap (λ (q : PoisedOf). q.call) prepared;
-  nothing = begun.nothing;
 }
 
 some_same : (x y : Outcome) → Some x ≡ Some y → x ≡ y

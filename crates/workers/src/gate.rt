@@ -6,8 +6,9 @@ pub trait Gate: Sync {
     fn pass(&self, thread: u32, step: u32);
 
     /// Whether it observes each grant before the next lock is asked for. Otherwise a call asks for all locks that it
-    /// needs next in one hold of the Mutex, and the gate is called after that, once for each lock that was granted. What
-    /// is promised of a call does not depend on it.
+    /// needs next in one hold of the Mutex, for the first ones in the hold in which it begins, and the gate is called
+    /// after that: of the begin, and once for each lock that was granted. What is promised of a call does not depend on
+    /// it.
     fn sees_each_grant(&self) -> bool {
         true
     }

@@ -4,12 +4,12 @@ ghost use Rattle.std.specs.Prelude.{◌≡◌, ◌<◌, ◌+◌, ◌^◌, [], le
 ghost use Rattle.locks.specs.Waiting.{HasNoCycle};
 ghost use Rattle.lock_manager.specs.Manager.{IsQuiet};
 ghost use Rattle.lock_manager.specs.Working.Managers.{opened, askers_of, IsKept};
-ghost use Rattle.runner.specs.Working.Opens.{ready_of, ready_again};
-ghost use Rattle.runner.specs.Working.Answers.{GoesOnSame};
+ghost use Rattle.runner.specs.Working.Opens.{IsSame, ready_of, ready_again};
+ghost use Rattle.runner.specs.Working.Answers.{GoesOnSame, open_of};
 ghost use Rattle.workers.specs.Working.Guarding.{IsManagerOf};
 ghost use Rattle.workers.specs.Working.LockEnds.{AreAsSeen, IsPartAt, asked_open};
 ghost use Rattle.workers.specs.Logs.{IsSound};
-ghost use Rattle.workers.specs.Working.Within.{IsBegun, IsEntered, SeesItsOwn};
+ghost use Rattle.workers.specs.Working.Within.{IsBegun, IsBegunOn, IsEntered, SeesItsOwn};
 
 use crate::asking::ask_on;
 use crate::front::Front;
@@ -21,7 +21,7 @@ use lock_manager::manager::Manager;
 use lock_manager::ticket::Receipt;
 use locks::lock::Lock;
 use lowering::compiled::Program;
-use runner::states::{Asked, Asking, Ended, Poised, Ready, Running};
+use runner::states::{Asked, Asking, Ended, Next, Poised, Ready, Running};
 use source::memory::NoMemory;
 use std::alloc::Global;
 use std::marker::Model;
@@ -97,6 +97,60 @@ impl<'p, 'r, J: Naming> Guarded<'p, 'r, J> {
         match poised.begin(alloc, &mut self.manager) {
             Ok(running) => Ok(running),
             Err(ready) => Err((ready, CallRefusal::NoMemory)),
+        }
+    }
+
+    /// Begins a call. If `asks` is set, it also runs the first instruction, and asks for the locks that the section then
+    /// needs. The cells of the section are part of what the log `front` leaves. Returns the section, which waits or goes
+    /// on, and how many locks were granted.
+    ///
+    /// # Errors
+    ///
+    /// As those of [`Guarded::begin`] and [`Guarded::ask`]. The section has ended without an entry.
+    pub(crate) fn begin_on(
+        &mut self,
+        alloc: Global,
+        poised: Poised<'p>,
+        asks: bool,
+        front: &mut Front<'r, J>,
+    ) -> Result<(Asked<'p>, u32), (Ready<'p>, CallRefusal)>
+        requires thread { poised.thread < 64 }
+        requires plan { poised.plan ≡ J.plan }
+        ensures ok { IfOk result (λ r. IsBegunOn poised.entry (asked_open r.0)) }
+        ensures part { IfOk result (λ r. IsPartAt J.plan front.new (asked_open r.0)) }
+        ensures err { IfErr result (λ e. e.0 ≡ ready_of poised.entry) }
+        ensures history { self.new.history ≡ self.old.history }
+    {
+        runner::laws::sections_stay_part();
+        let running = match self.begin(alloc, poised) {
+            Ok(running) => running,
+            Err(refused) => return Err(refused),
+        };
+        if !asks {
+            return Ok((Asked::Got(Next::Running(running)), 0));
+        }
+        match self.ask_first(running.run(1).1, front) {
+            Ok(answered) => Ok(answered),
+            Err(ready) => Err((ready, CallRefusal::Strange)),
+        }
+    }
+
+    // Asks for the locks that a section needs next, if it asks for one. Errors: as those of `ask`.
+    fn ask_first(
+        &mut self,
+        next: Next<'p>,
+        front: &mut Front<'r, J>,
+    ) -> Result<(Asked<'p>, u32), Ready<'p>>
+        requires plan { (open_of next).plan ≡ J.plan }
+        requires part { IsPartAt J.plan front.old (open_of next) }
+        ensures ok { IfOk result (λ r. IsSame (open_of next.entry) (asked_open r.0)) }
+        ensures part { IfOk result (λ r. IsPartAt J.plan front.new (asked_open r.0)) }
+        ensures err { IfErr result (λ ready. ready ≡ ready_again (open_of next.entry)) }
+        ensures history { self.new.history ≡ self.old.history }
+    {
+        match next {
+            Next::Asking(asking) => self.ask(asking, front, u32::MAX),
+            next => Ok((Asked::Got(next), 0)),
         }
     }
 

@@ -6,11 +6,12 @@ ghost use Rattle.core_lang.specs.WellFormed.{CanCall};
 ghost use Rattle.core_lang_helpers.specs.Prints.{most_prints};
 ghost use Rattle.lock_manager.specs.Manager.{IsQuiet};
 ghost use Rattle.runner.specs.Working.Opens.{IsSame, ready_again};
+ghost use Rattle.runner.specs.Working.Answers.{open_of};
 ghost use Rattle.workers.specs.Seats.{AllBelow, Gains, new_seats};
 ghost use Rattle.workers.specs.Answers.{IsAnswer, IsAnswerAsAccepted, RunsAsAccepted, IsSeated, IsHistoryOf, AnswersAreIn, as_call};
 ghost use Rattle.workers.specs.Logs.{Begins, IsSound};
 ghost use Rattle.workers.specs.Seen.{Sees, SeenIsIn};
-ghost use Rattle.workers.specs.Working.LockEnds.{IsPartAt};
+ghost use Rattle.workers.specs.Working.LockEnds.{IsPartAt, asked_open};
 ghost use Rattle.workers.specs.Working.Within.{HasAnswer, HasBegun, HasRoomFor, IsEntered, SeesItsOwn};
 
 use crate::answer_room::AnswerRoom;
@@ -29,7 +30,7 @@ use crate::seating::Seating;
 use core_lang::value::Value;
 use lock_manager::ticket::Receipt;
 use lowering::compiled::Program;
-use runner::states::{Asked, Ended, Next, Ready, Running};
+use runner::states::{Asked, Ended, Next, Ready};
 use source::memory::NoMemory;
 use std::alloc::Global;
 use std::mem;
@@ -73,13 +74,44 @@ fn pass_each<G: Gate>(gate: &G, thread: u32, granted: u32, count: u32) -> u32 {
     granted
 }
 
-// A call of a section by a thread, and the place where the thread waits.
-#[derive(Clone, Copy)]
-struct Request<'a> {
+// The section after an answer. Where it waits for a lock, the thread is woken first.
+fn awake<'p, R: Wait>(rt: &R, asked: Asked<'p>, parking: &Parking) -> Next<'p>
+    ensures { open_of result ≡ asked_open asked.entry }
+{
+    match asked {
+        Asked::Got(next) => next,
+        Asked::Waits(again, _) => {
+            parking.wait(rt);
+            Next::Asking(again)
+        }
+    }
+}
+
+// An open section, and how many locks it was granted.
+struct Going<'p> {
+    next: Next<'p>,
+    granted: u32,
+}
+
+// A call of a section by a thread, the place where the thread waits, and the observer.
+#[derive(Drop)]
+struct Request<'a, G> {
     thread: u32,
     section: usize,
     arguments: &'a [Value],
     parking: &'a Parking,
+    gate: &'a G,
+}
+
+impl<G: Gate> Request<'_, G> {
+    // The most locks that it asks for in one hold of the Mutex.
+    fn most(&self) -> u32 {
+        if self.gate.sees_each_grant() {
+            1
+        } else {
+            u32::MAX
+        }
+    }
 }
 
 impl<'p, 'r, J: Naming> Shared<'p, 'r, J> {
@@ -170,8 +202,9 @@ impl<'p, 'r, J: Naming> Shared<'p, 'r, J> {
             section,
             arguments,
             parking: &seat.parking,
+            gate,
         };
-        match self.run(rt, ready, request, &mut seat.seen, gate) {
+        match self.run(rt, ready, &request, &mut seat.seen) {
             Ok((ready, done)) => {
                 put_back(&mut seat.ready, ready);
                 Ok(done)
@@ -189,15 +222,14 @@ impl<'p, 'r, J: Naming> Shared<'p, 'r, J> {
         &self,
         rt: &R,
         ready: Ready<'p>,
-        request: Request<'_>,
+        request: &Request<'_, G>,
         seen: &mut Front<'r, J>,
-        gate: &G,
     ) -> Result<(Ready<'p>, Done), (Ready<'p>, CallRefusal)>
         requires thread { ready.thread < 64 }
-        requires fits { CanCall J.plan.program request.section request.arguments.now }
-        ensures answer { let call = as_call request.entry.section request.entry.arguments.now in
+        requires fits { CanCall J.plan.program request.now.section request.now.arguments.now }
+        ensures answer { let call = as_call request.now.section request.now.arguments.now in
             IfOk result (λ r. HasAnswer J.plan call ready.entry seen.old r.0 r.1 seen.new) }
-        ensures accepted { let call = as_call request.entry.section request.entry.arguments.now in
+        ensures accepted { let call = as_call request.now.section request.now.arguments.now in
             IfOk result (λ r. IsAnswerAsAccepted J.plan call r.1.position r.1.outcome r.1.prints.items) }
         ensures err { IfErr result (λ r. r.0 ≡ ready.entry) }
         ensures same { OnErr result (seen.new ≡ seen.old) }
@@ -207,10 +239,9 @@ impl<'p, 'r, J: Naming> Shared<'p, 'r, J> {
         core_lang::laws::writing_out_changes_nothing();
         let _shown = self.program.expanded();
         core_lang_helpers::laws::no_run_prints_more();
-        let (room, running) = self.begin(rt, ready, request)?;
-        gate.pass(request.thread, 0);
         let mut front = seen.again();
-        let ended = match self.go_on(rt, running, &mut front, request, gate) {
+        let (room, going) = self.begin(rt, ready, request, &mut front)?;
+        let ended = match self.go_on(rt, going, request, &mut front) {
             Ok(ended) => ended,
             Err(ready) => return Err((ready, CallRefusal::Strange)),
         };
@@ -226,18 +257,21 @@ impl<'p, 'r, J: Naming> Shared<'p, 'r, J> {
         }
     }
 
-    // Prepares all that a call can need, and begins it.
-    fn begin<R: Wait>(
+    // Prepares all that a call can need, and begins it. Unless the gate observes each grant, it asks for the first locks
+    // in the same hold of the Mutex. Then the cells of the section are part of what the log `front` leaves.
+    fn begin<R: Wait, G: Gate>(
         &self,
         rt: &R,
         ready: Ready<'p>,
-        request: Request<'_>,
-    ) -> Result<(AnswerRoom, Running<'p>), (Ready<'p>, CallRefusal)>
+        request: &Request<'_, G>,
+        front: &mut Front<'r, J>,
+    ) -> Result<(AnswerRoom, Going<'p>), (Ready<'p>, CallRefusal)>
         requires thread { ready.thread < 64 }
-        requires fits { CanCall J.plan.program request.section request.arguments.now }
-        ensures ok { let call = as_call request.entry.section request.entry.arguments.now in
-            IfOk result (λ r. HasBegun J.plan call ready.entry r.1) }
-        ensures room { IfOk result (λ r. HasRoomFor J.plan request.entry.section r.0) }
+        requires fits { CanCall J.plan.program request.now.section request.now.arguments.now }
+        ensures ok { let call = as_call request.now.section request.now.arguments.now in
+            IfOk result (λ r. HasBegun J.plan call ready.entry (open_of r.1.next)) }
+        ensures part { IfOk result (λ r. IsPartAt J.plan front.new (open_of r.1.next)) }
+        ensures room { IfOk result (λ r. HasRoomFor J.plan request.now.section r.0) }
         ensures err { IfErr result (λ r. r.0 ≡ ready.entry) }
     {
         let alloc = self.alloc;
@@ -249,11 +283,16 @@ impl<'p, 'r, J: Naming> Shared<'p, 'r, J> {
             Ok(poised) => poised,
             Err(ready) => return Err((ready, CallRefusal::NoMemory)),
         };
-        let begun = self.guarded.lock(rt).begin(alloc, poised);
-        match begun {
-            Ok(running) => Ok((room, running)),
-            Err(refused) => Err(refused),
-        }
+        let asks = !request.gate.sees_each_grant();
+        let begun = self.guarded.lock(rt).begin_on(alloc, poised, asks, front);
+        let (asked, count) = match begun {
+            Ok(answered) => answered,
+            Err(refused) => return Err(refused),
+        };
+        request.gate.pass(request.thread, 0);
+        let granted = pass_each(request.gate, request.thread, 0, count);
+        let next = awake(rt, asked, request.parking);
+        Ok((room, Going { next, granted }))
     }
 
     // Runs an open section to its end, and waits for its locks. Its cells are part of what the log `front` leaves,
@@ -262,21 +301,22 @@ impl<'p, 'r, J: Naming> Shared<'p, 'r, J> {
     fn go_on<R: Wait, G: Gate>(
         &self,
         rt: &R,
-        running: Running<'p>,
+        going: Going<'p>,
+        request: &Request<'_, G>,
         front: &mut Front<'r, J>,
-        request: Request<'_>,
-        gate: &G,
     ) -> Result<Ended<'p>, Ready<'p>>
-        requires plan { running.plan ≡ J.plan }
-        requires part { IsPartAt J.plan front.old running }
-        ensures ok { IfOk result (λ ended. IsSame running.entry ended) }
+        requires plan { (open_of going.next).plan ≡ J.plan }
+        requires part { IsPartAt J.plan front.old (open_of going.next) }
+        ensures ok { IfOk result (λ ended. IsSame (open_of going.entry.next) ended) }
         ensures part { IfOk result (λ ended. IsPartAt J.plan front.new ended) }
-        ensures err { IfErr result (λ ready. ready ≡ ready_again running.entry) }
+        ensures err { IfErr result (λ ready. ready ≡ ready_again (open_of going.entry.next)) }
     {
         runner::laws::sections_stay_part();
-        let most = if gate.sees_each_grant() { 1 } else { u32::MAX };
-        let mut next = Next::Running(running);
-        let mut granted = 0u32;
+        let most = request.most();
+        let Going {
+            mut next,
+            mut granted,
+        } = going;
         for _ in rt.forever() {
             next = match next {
                 Next::Running(running) => running.run(usize::MAX).1,
@@ -284,14 +324,8 @@ impl<'p, 'r, J: Naming> Shared<'p, 'r, J> {
                     let answer = self.guarded.lock(rt).ask(asking, front, most);
                     match answer {
                         Ok((asked, count)) => {
-                            granted = pass_each(gate, request.thread, granted, count);
-                            match asked {
-                                Asked::Got(further) => further,
-                                Asked::Waits(again, _) => {
-                                    request.parking.wait(rt);
-                                    Next::Asking(again)
-                                }
-                            }
+                            granted = pass_each(request.gate, request.thread, granted, count);
+                            awake(rt, asked, request.parking)
                         }
                         Err(ready) => {
                             self.wakings.wake_all();

@@ -46,14 +46,20 @@ pub record IsBegun (p : PoisedOf) (o : OpenOf) : Type 0 where
   pub call : o.activation.call ≡ p.call
   pub nothing : o.activation.machine.memory ≡ none_held
 
--- a call of a thread has begun
+-- the call that was prepared has begun, and its section may have got further
+pub record IsBegunOn (p : PoisedOf) (o : OpenOf) : Type 0 where
+  pub plan : o.plan ≡ p.plan
+  pub thread : o.thread ≡ p.thread
+  pub step : o.step ≡ p.step
+  pub call : o.activation.call ≡ p.call
+
+-- a call of a thread has begun, and its section may have got further
 pub record HasBegun (plan : Plan) (call : Invocation) (ready : ReadyOf) (o : OpenOf) : Type 0
   where
     pub plan_is : o.plan ≡ plan
     pub thread : o.thread ≡ ready.thread
     pub step : o.step ≡ ready.step
     pub call_is : o.activation.call ≡ call
-    pub nothing : o.activation.machine.memory ≡ none_held
 
 -- there is room for all that one run of the section prints
 abbrev pub HasRoomFor : Plan → ℕ → ℕ → Type 0

@@ -4,4 +4,7 @@ use Rattle.workers.specs.Working.LockEnds.{IsPartAt}
 use Rattle.workers.proofs.shared.Shared.go_on.Given as goal
 
 abbrev pub invariant-loop : goal.invariant-loop
-invariant-loop g l = record { same : IsSame l.fn.running (open_of l.next); part : IsPartAt g.J.Naming.plan l.front (open_of l.next) }
+invariant-loop g l = record {
+  same : IsSame (open_of l.fn.going.next) (open_of l.next);
+  part : IsPartAt g.J.Naming.plan l.front (open_of l.next);
+}
