@@ -18,6 +18,7 @@ use clap::Error;
 use clap::error::ErrorKind;
 use driver::{Sink, SourceText, Status, Streams, explain_code, lsp, serve, serve_beside};
 use driver_words::{Alone, Color, Line, Request, words};
+use lsp_protocol::{Incoming, Outgoing};
 use std::alloc::{AllocError, Global};
 use std::env::VarError;
 use std::fs::File;
@@ -79,11 +80,13 @@ fn serve_editor<O: Write, E: Write>(rt: &HostRuntime, streams: &mut Streams<O, E
         ⊎ Tells E.contents streams.old.err streams.new.err cannot_write }
     ensures memory { result ≡ Status.OutOfMemory → Tells E.contents streams.old.err streams.new.err no_memory }
 {
-    let Ok(mut reader) = BufReader::new(rt.alloc(), rt.stdin()) else {
+    let Ok(reader) = BufReader::new(rt.alloc(), rt.stdin()) else {
         streams.tell_no_memory();
         return Status::OutOfMemory;
     };
-    lsp(rt.alloc(), &mut reader, &mut rt.stdout(), streams)
+    let mut incoming = Incoming::new(reader);
+    let mut outgoing = Outgoing::new(rt.stdout());
+    lsp(rt.alloc(), &mut incoming, &mut outgoing, streams)
 }
 
 /// Opens the files of a command line, and answers its request, with threads from `threads`. No line that was read ends

@@ -7,6 +7,7 @@ use Rattle.driver.specs.declared.streams.Streams.{Streams}
 use Rattle.driver.specs.Messages.{cannot_read, cannot_write, no_memory}
 use Rattle.driver.specs.Streams.{Tells}
 use Rattle.language_server.specs.Serving.{ServesEditor}
+use Rattle.lsp_protocol.specs.Connections.{Connection}
 use Rattle.lsp_protocol.specs.declared.serving.End.{End}
 use Rattle.lsp_protocol.specs.declared.serving.End.TheVariants.{Exit, Input, Unread, Unwritten, OutOfMemory}
 
@@ -27,11 +28,10 @@ message_for Unread = cannot_read (codes "standard input")
 message_for Unwritten = cannot_write
 message_for OutOfMemory = no_memory
 
--- the editor was served until this end; `old_output` and `output` are what the writer to the editor held and holds
-pub record IsServed {O E : Type 0} (input old_output output : Option (List ℕ)) (told : E → Option (List ℕ))
-    (old new : Streams O E) (status : Status) : Type 0 where
+-- the editor was served until this end over a connection, which was the first one and is the second one now
+pub record IsServed {O E : Type 0} (had has : Connection) (told : E → Option (List ℕ)) (old new : Streams O E) (status : Status) : Type 0 where
   pub ended : End
-  pub serves : ServesEditor input old_output output ended
+  pub serves : ServesEditor had has ended
   pub status_is : status ≡ status_for ended
   pub said : Tells told old.err new.err (message_for ended)
   pub kept : new.out ≡ old.out

@@ -1,13 +1,14 @@
 //! The engine of `lsp`.
 
 ghost use Rattle.std.specs.Prelude.{◌≡◌};
+ghost use Rattle.lsp_protocol.specs.Connections.{connection};
 ghost use Rattle.driver.specs.Editors.{IsServed, message_for, status_for};
 ghost use Rattle.driver.specs.Streams.{Tells};
 
 use crate::status::Status;
 use crate::streams::Streams;
 use language_server::serve;
-use lsp_protocol::End;
+use lsp_protocol::{End, Incoming, Outgoing};
 use std::alloc::Global;
 use std::io::{BufRead, Write};
 
@@ -36,8 +37,8 @@ fn tell_end<O: Write, E: Write>(end: End, streams: &mut Streams<O, E>)
     }
 }
 
-/// Serves an editor by the language server protocol: reads its messages from `reader`, and writes the answers to each
-/// message to `writer` before it reads the next one. Only `err` of `streams` is used. Returns how that ended:
+/// Serves an editor by the language server protocol: reads its messages from `incoming`, and writes the answers to each
+/// message to `outgoing` before it reads the next one. Only `err` of `streams` is used. Returns how that ended:
 ///
 /// - `Done`: the editor asked to exit, after it had asked to shut down.
 /// - `Refused`: the editor asked to exit without having asked to shut down, or the rest of the input does not begin with
@@ -46,14 +47,15 @@ fn tell_end<O: Write, E: Write>(end: End, streams: &mut Streams<O, E>)
 /// - `OutOfMemory`: a growth was refused, also for the answer that says so, which is reported on `err`.
 pub fn lsp<R: BufRead, W: Write, O: Write, E: Write>(
     alloc: Global,
-    reader: &mut R,
-    writer: &mut W,
+    incoming: &mut Incoming<R>,
+    outgoing: &mut Outgoing<W>,
     streams: &mut Streams<O, E>,
 ) -> Status
-    ensures { IsServed (R.remaining reader.old) (W.contents writer.old) (W.contents writer.new) E.contents
+    ensures { IsServed (connection R.remaining W.contents incoming.old outgoing.old)
+        (connection R.remaining W.contents incoming.new outgoing.new) E.contents
         streams.old streams.new result }
 {
-    let end = serve(alloc, reader, writer);
+    let end = serve(alloc, incoming, outgoing);
     tell_end(end, streams);
     status_of(end)
 }

@@ -1,13 +1,13 @@
 -- Messages that are answered in turn.
 use Rattle.std.proofs.Common.{◌≡◌, ◌∙◌, ℕ, List, [], ◌∷◌, ◌++◌, Option, Some, None, refl, sym, ap, subst, append_assoc, append-nil}
 use Rattle.std.specs.Io.KnownBytes.{Appends}
-use Rattle.std.proofs.KnownBytes.{Appends-nil, Appends-trans}
-use Rattle.lsp_protocol.specs.Frames.{frame_of, AreFramesOf, TakesFrame, TakesFrames, NoFrameIn}
+use Rattle.std.proofs.KnownBytes.{Appends-trans}
+use Rattle.lsp_protocol.specs.Frames.{frame_of, AreFramesOf, TakesFrame, TakesFrames}
 use Rattle.lsp_protocol.specs.declared.serving.Next.{Next}
-use Rattle.lsp_protocol.specs.declared.serving.Next.TheVariants.{Message, Exit}
+use Rattle.lsp_protocol.specs.declared.serving.Next.TheVariants.{Message}
 use Rattle.lsp_protocol.specs.declared.serving.End.{End}
 use Rattle.lsp_protocol.specs.declared.serving.End.TheVariants as end
-use Rattle.lsp_protocol.specs.Loop.{Answered, IsNext, EndsSo, Serves}
+use Rattle.lsp_protocol.specs.Loop.{Answered, IsNext, EndsSo}
 
 -- ---- the bytes that were read
 

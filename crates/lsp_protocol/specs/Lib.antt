@@ -1,4 +1,5 @@
 pub mod Calls
+pub mod Connections
 pub mod Deeds
 pub mod Documents
 pub mod Frames

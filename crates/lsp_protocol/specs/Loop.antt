@@ -1,6 +1,7 @@
 -- What the loop of a server has written at its end.
-use Rattle.std.specs.Prelude.{◌≡◌, ℕ, List, [], ◌∷◌, ◌++◌, Option, Some, None, ⊤}
+use Rattle.std.specs.Prelude.{◌≡◌, ◌||◌, ℕ, Bool, true, false, List, [], ◌∷◌, ◌++◌, Option, Some, None, ⊤}
 use Rattle.std.specs.Io.KnownBytes.{Appends}
+use Rattle.lsp_protocol.specs.Connections.{Connection}
 use Rattle.lsp_protocol.specs.Frames.{frame_of, NoFrameIn, TakesFrames, AppendsFront}
 use Rattle.lsp_protocol.specs.declared.serving.Next.{Next}
 use Rattle.lsp_protocol.specs.declared.serving.Next.TheVariants.{Message, Exit}
@@ -33,15 +34,28 @@ EndsSo {S} answers left old new out service end.Unwritten =
     (body : List ℕ) × (last : List ℕ) × (next : Next) × (after : S) × IsNext left body × answers service body last next after
     × (mid : Option (List ℕ)) × Appends old mid out × AppendsFront mid new last
 
--- the loop ended in this way, over a reader with these bytes left, if they are known
-pub record Serves {S : Type 0} (answers : S → List ℕ → List ℕ → Next → S → Type 0) (input old new : Option (List ℕ)) (service : S) (ended : End) : Type 0 where
+-- reading failed
+abbrev pub is_unread : End → Bool
+is_unread end.Unread = true
+is_unread _ = false
+
+-- writing failed
+abbrev pub is_unwritten : End → Bool
+is_unwritten end.Unwritten = true
+is_unwritten _ = false
+
+-- the loop ended in this way over a connection, which was the first one and is the second one now
+pub record Serves {S : Type 0} (answers : S → List ℕ → List ℕ → Next → S → Type 0) (had has : Connection) (service : S) (ended : End) : Type 0 where
   -- the messages that were answered and followed by the next one
   pub bodies : List (List ℕ)
   -- the rest of the input after them
   pub left : Option (List ℕ)
-  pub read : TakesFrames input left bodies
+  pub read : TakesFrames had.input left bodies
   -- their answers, and the service after them
   pub out : List ℕ
   pub behind : S
   pub answered : Answered answers service bodies out behind
-  pub ends : EndsSo answers left old new out behind ended
+  pub ends : EndsSo answers left had.output has.output out behind ended
+  -- it ended so exactly where reading failed, or writing
+  pub unread : has.unread ≡ (is_unread ended || had.unread)
+  pub unwritten : has.unwritten ≡ (is_unwritten ended || had.unwritten)

@@ -1,52 +1,25 @@
 //! Reads frames.
 
-ghost use Rattle.std.specs.Prelude.{length, IfOk, MatchOption, MatchBool};
-ghost use Rattle.std.specs.Io.KnownBytes.{Consumes};
+ghost use Rattle.std.specs.Prelude.{◌≡◌, ◌||◌, IfOk, MatchOption};
+ghost use Rattle.lsp_protocol.specs.Connections.{reader_of, reading_failed, is_failure};
 ghost use Rattle.lsp_protocol.specs.Frames.{NoFrameIn, TakesFrame};
 ghost use Rattle.lsp_protocol.specs.Working.Reading.{TakesField, TakesHeader, IsBody, IsShort};
 
 use crate::fields::{Field, field_of};
-use std::alloc::{AllocError, Global};
-use std::io;
-use std::io::{BufRead, ErrorKind, Read};
-use thiserror::Error;
+use crate::incoming::{Incoming, ReadError};
+use std::alloc::Global;
+use std::io::BufRead;
 
 /// The most lines of a header, with the empty one that ends it.
 pub const HEADER_LIMIT: usize = 64;
 
-/// Why reading failed.
-#[derive(Clone, Copy, Debug, PartialEq, Eq, Error)]
-pub enum ReadError {
-    /// The reader failed.
-    #[error("cannot read")]
-    Failed,
-    /// An allocation failed, or the reader was out of memory.
-    #[error("no memory")]
-    OutOfMemory,
-}
-
-impl From<io::Error> for ReadError {
-    fn from(error: io::Error) -> ReadError {
-        if error.kind() == ErrorKind::OutOfMemory {
-            ReadError::OutOfMemory
-        } else {
-            ReadError::Failed
-        }
-    }
-}
-
-impl From<AllocError> for ReadError {
-    fn from(_error: AllocError) -> ReadError {
-        ReadError::OutOfMemory
-    }
-}
-
 /// The next line of a header.
-fn read_field<R: BufRead>(alloc: Global, reader: &mut R) -> Result<Field, ReadError>
-    ensures { IfOk result (TakesField (R.remaining reader.old) (R.remaining reader.new)) }
+fn read_field<R: BufRead>(alloc: Global, incoming: &mut Incoming<R>) -> Result<Field, ReadError>
+    ensures field { IfOk result
+        (TakesField (R.remaining (reader_of incoming.old)) (R.remaining (reader_of incoming.new))) }
+    ensures failed { reading_failed incoming.new ≡ (is_failure result || reading_failed incoming.old) }
 {
-    let mut line = Vec::new(alloc);
-    reader.read_until(b'\n', &mut line)?;
+    let line = incoming.read_line(alloc)?;
     Ok(match line.as_slice() {
         [front @ .., b'\n'] => field_of(front),
         _ => Field::Wrong,
@@ -54,12 +27,17 @@ fn read_field<R: BufRead>(alloc: Global, reader: &mut R) -> Result<Field, ReadEr
 }
 
 /// The length that the next header states, if it is a header.
-fn read_header<R: BufRead>(alloc: Global, reader: &mut R) -> Result<Option<usize>, ReadError>
-    ensures { IfOk result (TakesHeader (R.remaining reader.old) (R.remaining reader.new)) }
+fn read_header<R: BufRead>(
+    alloc: Global,
+    incoming: &mut Incoming<R>,
+) -> Result<Option<usize>, ReadError>
+    ensures header { IfOk result
+        (TakesHeader (R.remaining (reader_of incoming.old)) (R.remaining (reader_of incoming.new))) }
+    ensures failed { reading_failed incoming.new ≡ (is_failure result || reading_failed incoming.old) }
 {
     let mut length = None;
     'lines: for _ in 0..HEADER_LIMIT {
-        match read_field(alloc, reader)? {
+        match read_field(alloc, incoming)? {
             Field::End => return Ok(length),
             Field::Length(found) => length = Some(found),
             Field::Wrong => return Ok(None),
@@ -69,41 +47,21 @@ fn read_header<R: BufRead>(alloc: Global, reader: &mut R) -> Result<Option<usize
     Ok(None)
 }
 
-/// Fills the buffer from the reader; `false` if the input ends before.
-fn fill<R: Read>(reader: &mut R, buffer: &mut [u8]) -> Result<bool, ReadError>
-    ensures { IfOk result (λ whole. MatchBool whole (Consumes (R.remaining reader.old)
-        (R.remaining reader.new) buffer.new)
-        (IsShort (R.remaining reader.old) (length buffer.new))) }
-{
-    let mut at = 0;
-    for _ in 0..u64::MAX {
-        if at >= buffer.len() {
-            return Ok(true);
-        }
-        match reader.read(&mut buffer[at..]) {
-            Ok(0) => return Ok(false),
-            Ok(count) => at += count,
-            Err(error) => {
-                if error.kind() != ErrorKind::Interrupted {
-                    return Err(ReadError::from(error));
-                }
-            }
-        }
-    }
-    Err(ReadError::Failed)
-}
-
 /// The next bytes, as many as given; `None` if the input ends before.
-fn read_body<R: Read>(
+fn read_body<R: BufRead>(
     alloc: Global,
-    reader: &mut R,
+    incoming: &mut Incoming<R>,
     length: usize,
 ) -> Result<Option<Vec<u8>>, ReadError>
-    ensures { IfOk result (λ found. MatchOption found (IsShort (R.remaining reader.old) length)
-        (λ body. IsBody (R.remaining reader.old) (R.remaining reader.new) length body.items)) }
+    ensures body { IfOk result (λ found. MatchOption found (IsShort (R.remaining (reader_of incoming.old)) length)
+        (λ body. IsBody (R.remaining (reader_of incoming.old)) (R.remaining (reader_of incoming.new)) length
+        body.items)) }
+    ensures failed { reading_failed incoming.new ≡ (is_failure result || reading_failed incoming.old) }
 {
-    let mut body = vec![in alloc; 0u8; length]?;
-    if fill(reader, &mut body)? {
+    let Ok(mut body) = vec![in alloc; 0u8; length] else {
+        return Err(ReadError::OutOfMemory);
+    };
+    if incoming.fill(&mut body)? {
         Ok(Some(body))
     } else {
         Ok(None)
@@ -116,12 +74,17 @@ fn read_body<R: Read>(
 /// # Errors
 ///
 /// The reader failed, or an allocation failed.
-pub fn read_frame<R: BufRead>(alloc: Global, reader: &mut R) -> Result<Option<Vec<u8>>, ReadError>
-    ensures { IfOk result (λ found. MatchOption found (NoFrameIn (R.remaining reader.old))
-        (λ body. TakesFrame (R.remaining reader.old) (R.remaining reader.new) body.items)) }
+pub fn read_frame<R: BufRead>(
+    alloc: Global,
+    incoming: &mut Incoming<R>,
+) -> Result<Option<Vec<u8>>, ReadError>
+    ensures frame { IfOk result (λ found. MatchOption found (NoFrameIn (R.remaining (reader_of incoming.old)))
+        (λ body. TakesFrame (R.remaining (reader_of incoming.old)) (R.remaining (reader_of incoming.new))
+        body.items)) }
+    ensures failed { reading_failed incoming.new ≡ (is_failure result || reading_failed incoming.old) }
 {
-    match read_header(alloc, reader)? {
-        Some(length) => read_body(alloc, reader, length),
+    match read_header(alloc, incoming)? {
+        Some(length) => read_body(alloc, incoming, length),
         None => Ok(None),
     }
 }

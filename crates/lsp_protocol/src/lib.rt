@@ -1,5 +1,6 @@
 //! A language server without a language: frames, messages, and the life of a session.
 //!
+//! - [`Incoming`], [`Outgoing`]: the two ends of the connection to a client, which remember whether they failed.
 //! - [`serve`]: the loop over any reader, writer and service, which reads a frame, answers its message, writes the
 //!   answer, and repeats. [`End`]: why it ended. `specs/Loop` defines what it has written then: the whole answers to
 //!   the messages in turn, and after a failed write a beginning of one more.
@@ -19,13 +20,17 @@ mod documents;
 pub mod fields;
 mod frame_reading;
 mod frame_writing;
+mod incoming;
 mod language;
+mod outgoing;
 mod parameters;
 mod replies;
 mod server;
 mod serving;
 mod writing;
 
+pub use incoming::Incoming;
 pub use language::{Language, Request};
+pub use outgoing::Outgoing;
 pub use server::Server;
 pub use serving::{End, serve};

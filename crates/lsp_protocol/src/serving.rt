@@ -1,12 +1,14 @@
 //! The loop of a server.
 
-ghost use Rattle.std.specs.Prelude.{ℕ, List, IfOk};
+ghost use Rattle.std.specs.Prelude.{◌≡◌, ◌||◌, ℕ, List, IfOk};
 ghost use Rattle.lsp_protocol.specs.declared.serving.Next.{Next};
+ghost use Rattle.lsp_protocol.specs.Connections.{connection, reader_of, writer_of, reading_failed, writing_failed};
 ghost use Rattle.lsp_protocol.specs.Loop.{Serves};
-ghost use Rattle.lsp_protocol.specs.Working.Steps.{IsStep};
+ghost use Rattle.lsp_protocol.specs.Working.Steps.{IsStep, stops_unread, stops_unwritten};
 
-use crate::frame_reading::{ReadError, read_frame};
-use crate::frame_writing::write_out;
+use crate::frame_reading::read_frame;
+use crate::incoming::{Incoming, ReadError};
+use crate::outgoing::Outgoing;
 use source::memory::NoMemory;
 use std::alloc::Global;
 use std::io::{BufRead, Write};
@@ -61,15 +63,16 @@ pub enum End {
 /// Reads and answers one message; `None` if more may come.
 fn serve_one<R: BufRead, W: Write, S: Service>(
     alloc: Global,
-    reader: &mut R,
-    writer: &mut W,
+    incoming: &mut Incoming<R>,
+    outgoing: &mut Outgoing<W>,
     service: &mut S,
 ) -> Option<End>
-    ensures { IsStep S.answers (R.remaining reader.old) (R.remaining reader.new) (W.contents writer.old)
-        (W.contents writer.new)
-        service.old service.new result }
+    ensures step { IsStep S.answers (R.remaining (reader_of incoming.old)) (R.remaining (reader_of incoming.new))
+        (W.contents (writer_of outgoing.old)) (W.contents (writer_of outgoing.new)) service.old service.new result }
+    ensures unread { reading_failed incoming.new ≡ (stops_unread result || reading_failed incoming.old) }
+    ensures unwritten { writing_failed outgoing.new ≡ (stops_unwritten result || writing_failed outgoing.old) }
 {
-    let body = match read_frame(alloc, reader) {
+    let body = match read_frame(alloc, incoming) {
         Ok(Some(body)) => body,
         Ok(None) => return Some(End::Input),
         Err(ReadError::Failed) => return Some(End::Unread),
@@ -78,7 +81,7 @@ fn serve_one<R: BufRead, W: Write, S: Service>(
     let Ok(answer) = service.answer(alloc, &body) else {
         return Some(End::OutOfMemory);
     };
-    if write_out(writer, &answer.frames).is_err() {
+    if outgoing.write_out(&answer.frames).is_err() {
         return Some(End::Unwritten);
     }
     match answer.next {
@@ -87,21 +90,21 @@ fn serve_one<R: BufRead, W: Write, S: Service>(
     }
 }
 
-/// Reads and answers messages until the end. Each answer is written and flushed before the next message is read. A
-/// service that has had 2 ^ 64 - 1 messages ends as if its reader had failed.
+/// Reads and answers messages until the end. Each answer is written and flushed before the next message is read, which
+/// no clause says. A service that has had 2 ^ 64 - 1 messages ends as if memory had run out.
 pub fn serve<R: BufRead, W: Write, S: Service>(
     alloc: Global,
-    reader: &mut R,
-    writer: &mut W,
+    incoming: &mut Incoming<R>,
+    outgoing: &mut Outgoing<W>,
     service: &mut S,
 ) -> End
-    ensures { Serves S.answers (R.remaining reader.old) (W.contents writer.old)
-        (W.contents writer.new) service.old result }
+    ensures { Serves S.answers (connection R.remaining W.contents incoming.old outgoing.old)
+        (connection R.remaining W.contents incoming.new outgoing.new) service.old result }
 {
     for _ in 0..u64::MAX {
-        if let Some(end) = serve_one(alloc, reader, writer, service) {
+        if let Some(end) = serve_one(alloc, incoming, outgoing, service) {
             return end;
         }
     }
-    End::Unread
+    End::OutOfMemory
 }

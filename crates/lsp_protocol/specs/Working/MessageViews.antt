@@ -1,5 +1,5 @@
 -- The messages of the code, as the data of `specs/`.
-use Rattle.std.specs.Prelude.{ℕ, List, Option, option_map, ⊤}
+use Rattle.std.specs.Prelude.{ℕ, List, option_map, ⊤}
 use Rattle.serde_json.specs.View.{view}
 use Rattle.lsp_protocol.specs.declared.calls.Message.{Message}
 use Rattle.lsp_protocol.specs.declared.calls.ReadFault.{ReadFault}

@@ -1,8 +1,8 @@
 use Rattle.std.proofs.Common.{◌≡◌, ℕ, ◌-◌, List, ◌++◌, length, take, drop, sym, ap, ◌∙◌, append_assoc, take-append-drop}
 use Rattle.std.proofs.lemmas.List.{take_rest}
 use Rattle.std.proofs.KnownBytes.{Appends-trans, Appends-kept}
-use Rattle.lsp_protocol.proofs.frame_writing.write_bytes.Goals as goal
-use Rattle.lsp_protocol.proofs.frame_writing.write_bytes.Goals.{in-Ok, in-Err+else-ne}
+use Rattle.lsp_protocol.proofs.outgoing.write_bytes.Goals as goal
+use Rattle.lsp_protocol.proofs.outgoing.write_bytes.Goals.{in-Ok, in-Err+else-ne}
 
 moves_front : (all done rest : List ℕ) (n : ℕ) → all ≡ done ++ rest → all ≡ (done ++ take n rest) ++ take (length rest - n) (drop n rest)
 moves_front all done rest n e =

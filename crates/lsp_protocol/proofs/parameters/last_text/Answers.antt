@@ -1,4 +1,4 @@
-use Rattle.std.proofs.Common.{◌≡◌, ◌∙◌, ◌-◌, zero, suc, ℕ, List, [], ◌∷◌, length, Option, Some, None, refl, sym, ap, arith, codes, option_and_then}
+use Rattle.std.proofs.Common.{◌≡◌, ◌∙◌, ◌-◌, suc, List, [], ◌∷◌, length, Some, sym, ap, arith, codes, option_and_then}
 use Rattle.std.specs.List.{slice_get}
 use Rattle.serde_json.specs.Data.{Data}
 use Rattle.serde_json.specs.Find.{as_array}

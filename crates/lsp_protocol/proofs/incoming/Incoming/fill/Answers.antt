@@ -4,8 +4,8 @@ use Rattle.std.specs.Io.KnownBytes.{Consumes}
 use Rattle.std.proofs.KnownBytes.{Consumes-trans, Consumes-kept}
 use borrow.Rule.Slice.PartMut.{put_mid, post_of}
 use lib.Seq.{take-add, take-append-le}
-use Rattle.lsp_protocol.proofs.frame_reading.fill.Goals as goal
-use Rattle.lsp_protocol.proofs.frame_reading.fill.Goals.{in-Ok, in-Err+else-ne}
+use Rattle.lsp_protocol.proofs.incoming.Incoming.fill.Goals as goal
+use Rattle.lsp_protocol.proofs.incoming.Incoming.fill.Goals.{in-Ok, in-Err+else-ne}
 
 take_split : (a b : ℕ) (old new : List ℕ) → a ≤ b → take a new ≡ take a old → take a old ++ slice_range new a b ≡ take b new
 take_split a b old new h front =
@@ -33,10 +33,12 @@ loop-preserved g c =
             same = search rules;
             within = search (rules, w.at-is);
             filled = rw w.at-is (subst (Consumes _ _) (ap (λ l. take from old ++ l) (sym part) ∙ joined) (Consumes-trans _ _ _ _ _ c.loop.invariant.filled w.in-Ok.ensures.bytes.0));
+            failed = c.loop.invariant.failed;
           }
       | in-Err+else-ne w ↦ record {
         same = search rules;
         within = search (rules, w.at-is);
         filled = rw w.at-is (subst (Consumes _ _) (sym front) (Consumes-kept _ _ _ _ c.loop.invariant.filled w.in-Err.ensures.bytes));
+        failed = c.loop.invariant.failed;
       }
     ]
