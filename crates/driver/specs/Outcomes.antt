@@ -117,7 +117,7 @@ pub record TellsDrawn (looking : OutcomesOptions) (program : Typed) (status : St
   pub asked : Asked
   pub is_asked : IsAsked looking program expected asked
   pub ends : List Told
-  pub drawn : AreDrawnEnds program looking.count asked ends
+  pub drawn : AreDrawnEnds program looking.turns looking.count asked ends
   pub ended : status ≡ ended_by (breach_of expected asked ends)
   pub written : out ≡ outcomes_text program asked looking.full Drawn ends ++ judged program expected asked Drawn ends
   pub told : err ≡ []

@@ -25,7 +25,7 @@ use Rattle.outcomes.specs.Working.Reducing.{or_this, first_ready, by_thread, by_
 use Rattle.outcomes.proofs.Full.{fits}
 use Rattle.outcomes.proofs.Going.{goes_again}
 use Rattle.outcomes.proofs.Leading.{next_within}
-use Rattle.outcomes.proofs.Sums.{sum_with, end_behind}
+use Rattle.outcomes.proofs.Sums.{sum_with, leads_end}
 use Rattle.outcomes.proofs.Configurations.{passing, tested, total_here, none_pass, unsettled, ends_at, counts_are, counts_same, same_counts}
 use Rattle.outcomes.proofs.Whole.{all_end, ends_apart, unsettled_end, ends_as, some_term, passed, both_true, same_left, left_is, left_same, both_left, settled_left}
 use Rattle.outcomes.proofs.OrderParts.{begins, no_order, first_of_group, NoneIn}
@@ -377,14 +377,6 @@ covers_more search groups old new trail layer depth left independent goes empty 
     covers_one search groups old new trail layer depth left order independent goes empty good all (covers order there)
 
 -- ---- every end is reported
-
--- calls that lead to a state are settled, and leave that state
-leads_end : (program : Typed) (n : ℕ) (done : List ℕ) (left : Left) (order done' : List ℕ) (left' : Left) →
-    Leads program n done left order done' left' → end_from program n done left order ≡ Some left'
-leads_end program n done left [] done' left' leads = ap (λ l. Some l) leads.1
-leads_end program n done left (t ∷ order) done' left' leads =
-    end_behind program n done left t leads.0 leads.1 order leads.2 leads.3
-    ∙ leads_end program n (one_more done t) (left_after program done t leads.1 left) order done' left' leads.4
 
 seen_as : Cells → Left → Left → ℕ
 seen_as cells left other = cond (same_left other (seen cells left)) 1 0

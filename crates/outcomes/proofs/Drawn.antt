@@ -1,7 +1,11 @@
 -- Orders that are drawn.
-use Rattle.std.proofs.Common.{◌≡◌, ◌∙◌, ℕ, ◌+◌, ◌-◌, ◌<◌, ◌≤◌, zero, suc, List, [], ◌∷◌, ◌++◌, length, map, take, drop}
-use Rattle.std.proofs.Common.{get_or, slice_get, slice_set, Some, inl, inr, ap, sym, subst, refl, arith, length-append}
-use Rattle.std.proofs.lemmas.List.Sums.{sum_by_push, sum_by-set}
+use Rattle.std.proofs.Common.{◌≡◌, ◌∙◌, ℕ, ◌+◌, ◌-◌, ◌*◌, ◌<◌, ◌≤◌, zero, suc, cond, List, [], ◌∷◌, ◌++◌, length, map, take, drop}
+use Rattle.std.proofs.Common.{get_or, slice_get, Option, Some, inl, inr, ap, sym, subst, refl, arith, length-append, append-nil}
+use Rattle.std.specs.List.{All, Contains}
+use Rattle.std.specs.Option.{option_map}
+use Rattle.std.proofs.lemmas.List.{length-map}
+use Rattle.std.proofs.lemmas.List.Elements.{All-push, Contains-push, Contains-append_left}
+use Rattle.std.proofs.lemmas.List.Sums.{sum_by_push}
 use Rattle.std.proofs.Math.ListN.{get_or-append}
 use Rattle.core_lang.specs.declared.value.Value.{Value}
 use Rattle.core_lang.specs.declared.value.Outcome.{Outcome}
@@ -16,18 +20,19 @@ use Rattle.meaning.specs.Working.Undo.{undone}
 use Rattle.outcomes.specs.declared.search.Search.{Search}
 use Rattle.outcomes.specs.declared.drawing.Walk.{Walk}
 use Rattle.outcomes.specs.declared.drawing.Drawing.{Drawing}
-use Rattle.outcomes.specs.Orders.{next_call, one_more, none_done, orders}
-use Rattle.outcomes.specs.Ends.{Left, Told, AreDrawnEnds, answered, seen, seen_cells}
+use Rattle.outcomes.specs.Orders.{next_call, one_more, none_done, orders, orders_of}
+use Rattle.outcomes.specs.Ends.{Left, Told, AreDrawnEnds, answered, end_in, seen, seen_cells}
 use Rattle.outcomes.specs.declared.outcome.Cells.{Cells}
-use Rattle.outcomes.specs.Working.States.{Reached, at, nowhere, with_more, orders_to}
+use Rattle.outcomes.specs.Working.States.{Layered, Reached, at, with_more, orders_to}
 use Rattle.outcomes.specs.Working.Trails.{IsBegun, IsLonger}
-use Rattle.outcomes.specs.Working.Searching.{Leads, left_after, IsFound, as_told}
-use Rattle.outcomes.specs.Working.Drawing.{left_of, IsWalk, HasCallLeft, calls_of_thread, Notes, IsNewEnd, AreEndsOf}
-use Rattle.outcomes.specs.Working.Steps.{IsOver, IsBeyond, IsEnd, AreEnds, start_of}
-use Rattle.outcomes.proofs.Leading.{leads_further, set_apart, push_apart}
+use Rattle.outcomes.specs.Working.Searching.{Leads, left_after, order_at, AreApart, IsFound, as_told}
+use Rattle.outcomes.specs.Working.Drawing.{left_of, IsWalk, HasCallLeft, calls_of_thread, Notes, IsNewEnd, IsDrawnEnd, AreEndsOf, sum_of_ends}
+use Rattle.outcomes.specs.Working.Steps.{IsOver, IsBeyond, IsEnd, AreEnds, counted_in, start_of}
+use Rattle.outcomes.proofs.Leading.{leads_further, leads_in_order, set_apart, push_apart}
 use Rattle.outcomes.proofs.SeenEnds.{end_longer, end_more}
 use Rattle.outcomes.proofs.Full.{Within, fits, call_left, some_call}
-use Rattle.outcomes.proofs.Whole.{all_end, ends_apart, sum_told, both_left}
+use Rattle.outcomes.proofs.Sums.{leads_end, total_found, orders_found}
+use Rattle.outcomes.proofs.Whole.{all_end, ends_apart, sum_told, told_at, times_test, both_left}
 use Rattle.outcomes.specs.Theory.Done.{sums-lengths, length-lengths, sums, lengths}
 
 -- ---- the thread of a call
@@ -195,39 +200,95 @@ end_of_walk search old new end is long =
       seen_is = refl;
     }
 
-count_found : (old new : List Reached) (trail trail' : List (List ℕ)) (done : List ℕ) (left : Left) (k : ℕ) →
-    IsFound old new trail trail' done left 1 → orders_to old ≡ k → orders_to new ≡ k + 1
-count_found old new trail trail' done left k found is =
-    let s = at old found.number in
-    let sums = sum_by-set (λ (r : Reached). r.orders) old found.number (with_more s 1) nowhere found.within in
-    ap orders_to found.states ∙ omega (arith, sums, is)
+-- the order of a walk is an order of all calls
+walk_in_order : (search : Search) (walk : Walk) → IsWalk search walk →
+    length walk.order.items ≡ calls_together search.program.now.threads.items →
+    Contains (orders search.program.now) walk.order.items
+walk_in_order search walk is long =
+    let program = search.program.now in
+    subst (λ (k : ℕ). Contains (orders_of program k (none_done program)) walk.order.items) long
+    (leads_in_order program search.turns (none_done program) (start_of search) walk.order.items walk.done.items (left_of walk) is.leads)
 
-count_new : (cells : Cells) (old new : Drawing) (k : ℕ) → IsNewEnd cells old new → orders_to old.ends.states ≡ k → orders_to new.ends.states ≡ k + 1
-count_new cells old new k end is =
-    let sums = sum_by_push (λ (r : Reached). r.orders) old.ends.states
-    (record { done = old.walk.done.items; left = seen cells (left_of old.walk); orders = 1; first = end.first }) in
-    ap orders_to end.ends ∙ omega (arith, sums, is)
+-- the end of one more order
+ends_pushed : (search : Search) (walk : Walk) (f : Option Left → ℕ) (drawn : List (List ℕ)) → IsWalk search walk →
+    sum_of_ends search f (drawn ++ walk.order.items ∷ [])
+    ≡ sum_of_ends search f drawn + f (Some (seen search.asked.now.cells (left_of walk)))
+ends_pushed search walk f drawn is =
+    let program = search.program.now in
+    let see = seen search.asked.now.cells in
+    let g : List ℕ → ℕ = λ order. f (option_map see (end_in program search.turns search.asked.now.answers order)) in
+    let end = leads_end program search.turns (none_done program) (start_of search) walk.order.items walk.done.items (left_of walk) is.leads in
+    sum_by_push g drawn walk.order.items
+    ∙ ap (λ (o : Option Left). sum_of_ends search f drawn + f (option_map see o)) end
 
-ends_longer : (search : Search) (trail trail' : List (List ℕ)) (ends : List Reached) → IsLonger trail trail' →
-    AreEnds search trail ends → AreEnds search trail' ends
-ends_longer search trail trail' ends longer are =
-    record { each = λ k within. end_longer search trail trail' (at ends k) longer (are.each k within); apart = are.apart }
+one_time : (a x : ℕ) → a + 1 * x ≡ a + x
+one_time a x = omega arith
 
-ends_new : (search : Search) (old new : Drawing) → IsNewEnd search.asked.now.cells old new → IsWalk search old.walk →
+-- the sum over the ends grows by the end of the walk
+counted_more : (cells : Cells) (old new : Drawing) (w : Left → ℕ) → Notes cells old new →
+    counted_in w new.ends.states ≡ counted_in w old.ends.states + w (seen cells (left_of old.walk))
+counted_more cells old new w notes =
+    let left = seen cells (left_of old.walk) in
+    let before = counted_in w old.ends.states in
+    elim notes.2 [
+      | inl found ↦ total_found (λ (d : List ℕ) (l : Left). w l) old.ends.states new.ends.states old.trail new.trail old.walk.done.items left 1 found ∙ one_time before (w left)
+      | inr end ↦ ap (counted_in w) end.ends
+          ∙ sum_by_push (λ (r : Reached). r.orders * w r.left) old.ends.states (record { done = old.walk.done.items; left = left; orders = 1; first = end.first })
+          ∙ one_time before (w left)
+    ]
+
+-- one more order leads to the ends
+count_more : (cells : Cells) (old new : Drawing) → Notes cells old new → orders_to new.ends.states ≡ orders_to old.ends.states + 1
+count_more cells old new notes =
+    elim notes.2 [
+      | inl found ↦ orders_found old.ends.states new.ends.states old.trail new.trail old.walk.done.items (seen cells (left_of old.walk)) 1 found
+      | inr end ↦ ap orders_to end.ends
+          ∙ sum_by_push (λ (r : Reached). r.orders) old.ends.states
+          (record { done = old.walk.done.items; left = seen cells (left_of old.walk); orders = 1; first = end.first })
+    ]
+
+-- an end whose order was drawn stays one
+end_drawn : (search : Search) (trail trail' drawn : List (List ℕ)) (more : List ℕ) (s : Reached) → IsLonger trail trail' →
+    IsDrawnEnd search trail drawn s → IsDrawnEnd search trail' (drawn ++ more ∷ []) s
+end_drawn search trail trail' drawn more s longer is =
+    let same : order_at trail' s.first ≡ order_at trail s.first =
+    ap (λ (t : List (List ℕ)). get_or t s.first []) longer.1 ∙ get_or-append trail longer.0 [] s.first is.end.good.first in
+    record {
+      end = end_longer search trail trail' s longer is.end;
+      was_drawn = subst (Contains (drawn ++ more ∷ [])) (sym same) (Contains-append_left drawn (more ∷ []) (order_at trail s.first) is.was_drawn);
+    }
+
+drawn_more : (search : Search) (trail drawn : List (List ℕ)) (s : Reached) (more : ℕ) →
+    IsDrawnEnd search trail drawn s → IsDrawnEnd search trail drawn (with_more s more)
+drawn_more search trail drawn s more is = record { end = end_more search trail s more is.end; was_drawn = is.was_drawn }
+
+ends_drawn : (search : Search) (trail trail' drawn : List (List ℕ)) (more : List ℕ) (ends : List Reached) → IsLonger trail trail' →
+    AreApart (IsDrawnEnd search trail drawn) ends → AreApart (IsDrawnEnd search trail' (drawn ++ more ∷ [])) ends
+ends_drawn search trail trail' drawn more ends longer are =
+    record { each = λ k within. end_drawn search trail trail' drawn more (at ends k) longer (are.each k within); apart = are.apart }
+
+ends_new : (search : Search) (old new : Drawing) (drawn : List (List ℕ)) → IsNewEnd search.asked.now.cells old new → IsWalk search old.walk →
     length old.walk.order.items ≡ calls_together search.program.now.threads.items →
-    AreEnds search old.trail old.ends.states → AreEnds search new.trail new.ends.states
-ends_new search old new end is long are =
-    subst (AreEnds search new.trail) (sym end.ends)
-    (push_apart (IsEnd search new.trail) old.ends.states
+    AreApart (IsDrawnEnd search old.trail drawn) old.ends.states →
+    AreApart (IsDrawnEnd search new.trail (drawn ++ old.walk.order.items ∷ [])) new.ends.states
+ends_new search old new drawn end is long are =
+    let order = old.walk.order.items in
+    let more = drawn ++ order ∷ [] in
+    subst (AreApart (IsDrawnEnd search new.trail more)) (sym end.ends)
+    (push_apart (IsDrawnEnd search new.trail more) old.ends.states
     (record { done = old.walk.done.items; left = seen search.asked.now.cells (left_of old.walk); orders = 1; first = end.first })
-    end.none (end_of_walk search old new end is long) (ends_longer search old.trail new.trail old.ends.states end.longer are))
+    end.none
+    (record { end = end_of_walk search old new end is long; was_drawn = subst (Contains more) (sym end.order) (Contains-push drawn order) })
+    (ends_drawn search old.trail new.trail drawn order old.ends.states end.longer are))
 
-ends_found : (search : Search) (trail trail' : List (List ℕ)) (old new : List Reached) (done : List ℕ) (left : Left) →
-    IsFound old new trail trail' done left 1 → AreEnds search trail old → AreEnds search trail' new
-ends_found search trail trail' old new done left found are =
-    subst (AreEnds search trail') (sym found.states)
-    (subst (λ (t : List (List ℕ)). AreEnds search t (slice_set old found.number (with_more (at old found.number) 1))) (sym found.trail_is)
-    (set_apart (IsEnd search trail) old found.number 1 (end_more search trail) are))
+ends_found : (search : Search) (trail trail' drawn : List (List ℕ)) (more : List ℕ) (old new : List Reached) (done : List ℕ) (left : Left) →
+    IsFound old new trail trail' done left 1 → AreApart (IsDrawnEnd search trail drawn) old →
+    AreApart (IsDrawnEnd search trail' (drawn ++ more ∷ [])) new
+ends_found search trail trail' drawn more old new done left found are =
+    let drawn' = drawn ++ more ∷ [] in
+    subst (AreApart (IsDrawnEnd search trail' drawn')) (sym found.states)
+    (set_apart (IsDrawnEnd search trail' drawn') old found.number 1 (drawn_more search trail' drawn')
+    (ends_drawn search trail trail' drawn more old ([], found.trail_is ∙ sym (append-nil trail)) are))
 
 begun_longer : (old new : List (List ℕ)) → IsLonger old new → IsBegun old → IsBegun new
 begun_longer old new longer begun =
@@ -236,38 +297,84 @@ begun_longer old new longer begun =
       ap (λ (t : List (List ℕ)). get_or t 0 []) longer.1 ∙ get_or-append old longer.0 [] 0 begun.0 ∙ begun.1,
     )
 
-pub ends_more : (search : Search) (old new : Drawing) (k : ℕ) → IsWalk search old.walk →
-    length old.walk.order.items ≡ calls_together search.program.now.threads.items →
-    AreEnds search old.trail old.ends.states →
-    orders_to old.ends.states ≡ k → IsBegun old.trail → old.ends.opening ≡ seen_cells search.asked.now.cells (opening_heap search.program.now) → Notes search.asked.now.cells old new → AreEndsOf search new (k + 1)
-ends_more search old new k is long are count begun over notes =
+-- before any order is drawn
+pub no_ends_drawn : (search : Search) (drawing : Drawing) → undone drawing.walk.overwritten.items drawing.walk.heap ≡ opening_heap search.program.now →
+    drawing.ends.opening ≡ seen_cells search.asked.now.cells (opening_heap search.program.now) → IsBegun drawing.trail →
+    drawing.ends.states ≡ [] → AreEndsOf search drawing 0
+no_ends_drawn search drawing back opening begun none =
+    record {
+      back = back;
+      opening = opening;
+      begun = begun;
+      count = ap orders_to none;
+      drawn = [];
+      are_orders = λ k d within. absurd (omega arith);
+      as_many = refl;
+      ends = rw none (record { each = λ k within. absurd (omega arith); apart = λ j k below within alike. omega arith });
+      counts = λ f. ap (counted_in (λ (left : Left). f (Some left))) none;
+    }
+
+-- the walk before an order is noted, and the ends of the orders before it
+pub ends_more : (search : Search) (before old new : Drawing) (k : ℕ) → AreEndsOf search before k → old.ends ≡ before.ends → old.trail ≡ before.trail →
+    IsWalk search old.walk → length old.walk.order.items ≡ calls_together search.program.now.threads.items →
+    Notes search.asked.now.cells old new → AreEndsOf search new (k + 1)
+ends_more search before old new k are ends_are trail_is is long notes =
     let program = search.program.now in
     let cells = search.asked.now.cells in
     let left = seen cells (left_of old.walk) in
+    let order = old.walk.order.items in
+    let drawn = are.drawn in
+    let states : old.ends.states ≡ before.ends.states = ap (λ (l : Layered). l.states) ends_are in
+    let begun : IsBegun old.trail = subst IsBegun (sym trail_is) are.begun in
+    let apart : AreApart (IsDrawnEnd search old.trail drawn) old.ends.states =
+    subst (AreApart (IsDrawnEnd search old.trail drawn)) (sym states)
+    (subst (λ (t : List (List ℕ)). AreApart (IsDrawnEnd search t drawn) before.ends.states) (sym trail_is) are.ends) in
     record {
       back = subst (λ (w : Walk). undone w.overwritten.items w.heap ≡ opening_heap program) (sym notes.0) is.back;
-      opening = notes.1 ∙ over;
-      ends = elim notes.2 [
-        | inl found ↦ ends_found search old.trail new.trail old.ends.states new.ends.states old.walk.done.items left found are
-        | inr end ↦ ends_new search old new end is long are
-      ];
-      count = elim notes.2 [
-        | inl found ↦ count_found old.ends.states new.ends.states old.trail new.trail old.walk.done.items left k found count
-        | inr end ↦ count_new cells old new k end count
-      ];
+      opening = notes.1 ∙ ap (λ (l : Layered). l.opening) ends_are ∙ are.opening;
       begun = elim notes.2 [
         | inl found ↦ subst IsBegun (sym found.trail_is) begun
         | inr end ↦ begun_longer old.trail new.trail end.longer begun
       ];
+      count = count_more cells old new notes ∙ ap (λ (n : ℕ). n + 1) (ap orders_to states ∙ are.count);
+      drawn = drawn ++ order ∷ [];
+      are_orders = All-push (Contains (orders program)) drawn order are.are_orders (walk_in_order search old.walk is long);
+      as_many = length-append drawn (order ∷ []) ∙ ap (λ (n : ℕ). n + 1) are.as_many;
+      ends = elim notes.2 [
+        | inl found ↦ ends_found search old.trail new.trail drawn order old.ends.states new.ends.states old.walk.done.items left found apart
+        | inr end ↦ ends_new search old new drawn end is long apart
+      ];
+      counts = λ f.
+          counted_more cells old new (λ (l : Left). f (Some l)) notes
+          ∙ ap (λ (n : ℕ). n + f (Some left)) (ap (counted_in (λ (l : Left). f (Some l))) states ∙ are.counts f)
+          ∙ sym (ends_pushed search old.walk f drawn is);
     }
+
+-- each reported order was drawn
+told_drawn : (search : Search) (trail drawn : List (List ℕ)) (ends : List Reached) → AreApart (IsDrawnEnd search trail drawn) ends →
+    All (λ (e : Told). Contains drawn e.order) (map (as_told trail) ends)
+told_drawn search trail drawn ends are k d within =
+    let inside : k < length ends = rw length-map at within in
+    subst (λ (e : Told). Contains drawn e.order) (sym (told_at trail ends k d within)) (are.each k inside).was_drawn
 
 pub are_drawn_ends : OverIsWhole → (search : Search) (drawing : Drawing) (count : ℕ) (told : List Told) →
     search.most < length (orders search.program.now) → AreEndsOf search drawing count → count ≡ search.most →
-    told ≡ map (as_told drawing.trail) drawing.ends.states → AreDrawnEnds search.program.now search.most search.asked.now told
-are_drawn_ends law search drawing count told more ends all is =
-    subst (AreDrawnEnds search.program.now search.most search.asked.now) (sym is) (record {
+    told ≡ map (as_told drawing.trail) drawing.ends.states →
+    AreDrawnEnds search.program.now search.turns search.most search.asked.now told
+are_drawn_ends law search drawing count told more are all is =
+    let trail = drawing.trail in
+    let ends = drawing.ends.states in
+    let apart : AreEnds search trail ends = record { each = λ k within. (are.ends.each k within).end; apart = are.ends.apart } in
+    subst (AreDrawnEnds search.program.now search.turns search.most search.asked.now) (sym is) (record {
       more = more;
-      each = all_end law search drawing.trail drawing.ends.states ends.ends;
-      apart = ends_apart search drawing.trail drawing.ends.states ends.ends;
-      counts = sym (sum_told (λ (s : Reached). s.orders) (λ (e : Told). e.count) drawing.trail drawing.ends.states (λ s. refl)) ∙ ends.count ∙ all;
+      drawn = are.drawn;
+      are_orders = are.are_orders;
+      as_many = are.as_many ∙ all;
+      each = all_end law search trail ends apart;
+      was_drawn = told_drawn search trail are.drawn ends are.ends;
+      apart = ends_apart search trail ends apart;
+      counts = λ test.
+          sym (are.counts (λ (end : Option Left). cond (test end) 1 0))
+          ∙ sum_told (λ (s : Reached). s.orders * cond (test (Some s.left)) 1 0) (λ (e : Told). cond (test (Some e.left)) e.count 0) trail ends
+          (λ s. times_test (test (Some s.left)) s.orders);
     })

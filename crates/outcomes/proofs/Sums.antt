@@ -7,8 +7,8 @@ use Rattle.core_lang.specs.Serial.{Invocation, go_on, run_call, serial_with}
 use Rattle.core_lang.specs.Whole.{Finished, Run, Over}
 use Rattle.outcomes.specs.Orders.{next_call, one_more, orders_of, begun_with, begun_by, calls_of}
 use Rattle.outcomes.specs.Ends.{Left, left_by, end_from, done_after}
-use Rattle.outcomes.specs.Working.States.{Reached, at, nowhere, with_more}
-use Rattle.outcomes.specs.Working.Searching.{left_after, sum_over, weight, IsFound, IsAdded, Summand}
+use Rattle.outcomes.specs.Working.States.{Reached, at, nowhere, with_more, orders_to}
+use Rattle.outcomes.specs.Working.Searching.{Leads, left_after, sum_over, weight, IsFound, IsAdded, Summand}
 
 -- an order that begins with a call that ends has the end of its other calls, made from there
 pub end_behind : (program : Typed) (n : ℕ) (done : List ℕ) (heap : Left) (t : ℕ) (call : Invocation) (finished : Finished) (order : List ℕ) →
@@ -17,6 +17,14 @@ pub end_behind : (program : Typed) (n : ℕ) (done : List ℕ) (heap : Left) (t 
 end_behind program n done heap t call finished order next over =
     ap (λ (c : Option Invocation). left_by program done (t ∷ order) heap.answers (serial_with program n heap.cells (Rattle.std.specs.Option.option_to_list c ++ calls_of program (one_more done t) order))) next
     ∙ ap (λ (r : Run). left_by program done (t ∷ order) heap.answers (go_on r heap.cells (call ∷ calls_of program (one_more done t) order) (λ h. serial_with program n h (calls_of program (one_more done t) order)))) over
+
+-- calls that lead to a state are settled, and leave that state
+pub leads_end : (program : Typed) (n : ℕ) (done : List ℕ) (left : Left) (order done' : List ℕ) (left' : Left) →
+    Leads program n done left order done' left' → end_from program n done left order ≡ Some left'
+leads_end program n done left [] done' left' leads = ap (λ l. Some l) leads.1
+leads_end program n done left (t ∷ order) done' left' leads =
+    end_behind program n done left t leads.0 leads.1 order leads.2 leads.3
+    ∙ leads_end program n (one_more done t) (left_after program done t leads.1 left) order done' left' leads.4
 
 -- a sum over orders that all begin with one thread
 sum_behind : (f g : List ℕ → ℕ) (t : ℕ) (orders : List (List ℕ)) → ((order : List ℕ) → f (t ∷ order) ≡ g order) →
@@ -83,3 +91,12 @@ pub total_added : (w : List ℕ → Left →
 total_added w old new trail trail' done heap more from thread added =
     let g : Reached → ℕ = λ s. s.orders * w s.done s.left in
     ap (sum_by g) added.states ∙ sum_by_push g old (record { done = done; left = heap; orders = more; first = length trail })
+
+-- ---- the number of orders that lead to the states
+
+pub orders_found : (old new : List Reached) (trail trail' : List (List ℕ)) (done : List ℕ) (left : Left) (more : ℕ) →
+    IsFound old new trail trail' done left more → orders_to new ≡ orders_to old + more
+orders_found old new trail trail' done left more found =
+    let s = at old found.number in
+    let sums = sum_by-set (λ (r : Reached). r.orders) old found.number (with_more s more) nowhere found.within in
+    ap orders_to found.states ∙ omega (arith, sums)

@@ -126,7 +126,7 @@ stops_after law program n answers order thread beyond =
 
 -- ---- the end
 
-told_at : (trail : List (List ℕ)) (layer : List Reached) (k : ℕ) (d : Told) → k < length (map (as_told trail) layer) →
+pub told_at : (trail : List (List ℕ)) (layer : List Reached) (k : ℕ) (d : Told) → k < length (map (as_told trail) layer) →
     get_or (map (as_told trail) layer) k d ≡ as_told trail (at layer k)
 told_at trail layer k d within = get_or-map (as_told trail) layer k nowhere d (rw length-map at within)
 
@@ -193,7 +193,7 @@ same_sum g h (s ∷ states) same =
 times_one : (k x : ℕ) → k * (0 + x) ≡ k * x
 times_one k x = omega arith
 
-times_test : (b : Bool) (k : ℕ) → k * cond b 1 0 ≡ cond b k 0
+pub times_test : (b : Bool) (k : ℕ) → k * cond b 1 0 ≡ cond b k 0
 times_test true k = omega arith
 times_test false k = omega arith
 

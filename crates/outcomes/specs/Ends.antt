@@ -1,6 +1,6 @@
 -- The possible ends of the cells and the calls of a program.
-use Rattle.std.specs.Prelude.{◌≡◌, ◌≢◌, ℕ, ◌<◌, Bool, true, false, List, [], ◌∷◌, if◌then◌else◌, length, map, replicate}
-use Rattle.std.specs.Prelude.{All, AllPairs, Any, Contains, count_by, sum_by, Option, Some, None, option_map, slice_set}
+use Rattle.std.specs.Prelude.{◌≡◌, ◌≢◌, ℕ, ◌<◌, Bool, true, false, List, [], ◌∷◌, if◌then◌else◌, length, map}
+use Rattle.std.specs.Prelude.{All, AllPairs, Any, Contains, count_by, sum_by, replicate, Option, Some, None, option_map, slice_set}
 use Rattle.std.specs.Prelude.{slice_index, slice_index_or}
 use Rattle.core_lang.specs.declared.value.Value.{Value}
 use Rattle.core_lang.specs.declared.value.Value.TheVariants.{Ref}
@@ -104,16 +104,21 @@ abbrev pub TellsEveryEnd : Typed → Asked → List Told → Type 0
 TellsEveryEnd program asked told =
     (order : List ℕ) (left : Left) → EndsIn program asked.answers order left → Any (λ (e : Told). e.left ≡ seen asked.cells left) told
 
+-- for each test, the number of the given orders whose end passes it is the sum of the reported numbers
+abbrev pub TellsCounts : Typed → ℕ → Asked → List (List ℕ) → List Told → Type 0
+TellsCounts program n asked given told =
+    (test : Option Left → Bool) →
+    count_by (λ (order : List ℕ). test (option_map (seen asked.cells) (end_in program n asked.answers order))) given
+    ≡ told_count test told
+
 -- the report has the ends of all orders, each once, with the number of orders that lead to it
 pub record AreAllEnds (program : Typed) (n : ℕ) (asked : Asked) (told : List Told) : Type 0 where
   -- each end is that of its reported order
   pub each : All (IsEndOf program asked) told
   -- no two ends are equal
   pub apart : AllPairs (λ (a b : Told). a.left ≢ b.left) told
-  -- for each test, the number of orders whose end passes it is the sum of the reported numbers
-  pub counts : (test : Option Left → Bool) →
-      count_by (λ (order : List ℕ). test (option_map (seen asked.cells) (end_in program n asked.answers order))) (orders program)
-      ≡ told_count test told
+  -- the number of orders that lead to each end is the reported one
+  pub counts : TellsCounts program n asked (orders program) told
   -- the end of every order is reported
   pub all : TellsEveryEnd program asked told
 
@@ -136,15 +141,22 @@ pub record AreEndsOfAll (program : Typed) (n most : ℕ) (asked : Asked) (told :
   -- the end of every order is reported
   pub all : TellsEveryEnd program asked told
 
--- the report has the ends of orders that were drawn, since the program has more than `most` orders
-pub record AreDrawnEnds (program : Typed) (most : ℕ) (asked : Asked) (told : List Told) : Type 0 where
+-- the report has the ends of orders that were drawn, each once, with the number of drawn orders that lead to it, since
+-- the program has more than `most` orders
+pub record AreDrawnEnds (program : Typed) (n most : ℕ) (asked : Asked) (told : List Told) : Type 0 where
   pub more : most < length (orders program)
+  -- `most` orders were drawn, some maybe more than once
+  pub drawn : List (List ℕ)
+  pub are_orders : All (Contains (orders program)) drawn
+  pub as_many : length drawn ≡ most
   -- each end is that of its reported order
   pub each : All (IsEndOf program asked) told
+  -- that order was drawn
+  pub was_drawn : All (λ (e : Told). Contains drawn e.order) told
   -- no two ends are equal
   pub apart : AllPairs (λ (a b : Told). a.left ≢ b.left) told
-  -- `most` orders were drawn
-  pub counts : sum_by (λ (e : Told). e.count) told ≡ most
+  -- the number of drawn orders that lead to each end is the reported one
+  pub counts : TellsCounts program n asked drawn told
 
 -- the number of each thread's calls that are done after an order
 abbrev pub done_after : List ℕ → List ℕ → List ℕ
@@ -208,5 +220,5 @@ Finds program n most asked (found.All ends configurations) =
     AreAllEnds program n asked (map told_of ends.items) × HasConfigurations program asked.answers configurations
 Finds program n most asked (found.Reduced ends configurations) =
     AreEndsOfAll program n most asked (map told_of ends.items) × HasSomeConfigurations program asked.answers configurations
-Finds program n most asked (found.Drawn ends) = AreDrawnEnds program most asked (map told_of ends.items)
+Finds program n most asked (found.Drawn ends) = AreDrawnEnds program n most asked (map told_of ends.items)
 Finds program n most asked (found.Unsettled order thread) = StopsAfter program n order.items thread

@@ -491,9 +491,9 @@ impl Search<'_> {
     /// The ends of all orders, if all of them, or some that stand for all, are within the limit. Otherwise the ends of
     /// orders that are drawn from `seed`, as many as the limit. No clause says which are drawn.
     ///
-    /// Each end is reported once, with one order that leads to it and, if all orders were run, the number of orders
-    /// that do. If some orders stand for all, each end is reported with one of them. A call that the turns don't settle
-    /// is reported with an order after which it is the next one.
+    /// Each end is reported once, with one order that leads to it and, if all orders were run or some were drawn, the
+    /// number of these that do. If some orders stand for all, each end is reported with one of them. A call that the
+    /// turns don't settle is reported with an order after which it is the next one.
     ///
     /// # Errors
     ///

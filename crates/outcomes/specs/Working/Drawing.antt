@@ -1,5 +1,6 @@
 -- The invariants while orders are drawn. Nobody has to believe this file.
 use Rattle.std.specs.Prelude.{◌≡◌, ℕ, ◌<◌, zero, suc, Bool, MatchBool, List, [], ◌∷◌, ◌++◌, length, ◌⊎◌, Option, Some, None}
+use Rattle.std.specs.Prelude.{All, Contains, option_map, sum_by}
 use Rattle.core_lang.specs.declared.typed.Typed.{Typed}
 use Rattle.core_lang.specs.declared.typed.Thread.{Thread}
 use Rattle.core_lang.specs.Serial.{Invocation, opening_heap}
@@ -8,14 +9,14 @@ use Rattle.core_lang.specs.WellFormed.{calls_together}
 use Rattle.outcomes.specs.declared.search.Search.{Search}
 use Rattle.outcomes.specs.declared.drawing.Walk.{Walk}
 use Rattle.outcomes.specs.declared.drawing.Drawing.{Drawing}
-use Rattle.outcomes.specs.Orders.{next_call, none_done}
-use Rattle.outcomes.specs.Working.States.{left_with, NoneIsAlike, orders_to}
+use Rattle.outcomes.specs.Orders.{next_call, none_done, orders}
+use Rattle.outcomes.specs.Working.States.{Reached, left_with, NoneIsAlike, orders_to}
 use Rattle.outcomes.specs.Working.Trails.{IsBegun, IsLonger}
-use Rattle.outcomes.specs.Working.Searching.{Leads, order_at, IsFound}
+use Rattle.outcomes.specs.Working.Searching.{Leads, order_at, AreApart, IsFound}
 use Rattle.meaning.specs.Working.Undo.{undone}
-use Rattle.outcomes.specs.Ends.{Left, seen, seen_cells}
+use Rattle.outcomes.specs.Ends.{Left, end_in, seen, seen_cells}
 use Rattle.outcomes.specs.declared.outcome.Cells.{Cells}
-use Rattle.outcomes.specs.Working.Steps.{IsBeyond, AreEnds, start_of}
+use Rattle.outcomes.specs.Working.Steps.{IsBeyond, IsEnd, counted_in, start_of}
 
 -- the state that the calls leave
 abbrev pub left_of : Walk → Left
@@ -65,10 +66,25 @@ Notes cells old new =
     (new.walk ≡ old.walk) × (new.ends.opening ≡ old.ends.opening) ×
     (IsFound old.ends.states new.ends.states old.trail new.trail old.walk.done.items (seen cells (left_of old.walk)) 1 ⊎ IsNewEnd cells old new)
 
+-- a reported end, whose order was drawn
+pub record IsDrawnEnd (search : Search) (trail drawn : List (List ℕ)) (s : Reached) : Type 0 where
+  pub end : IsEnd search trail s
+  pub was_drawn : Contains drawn (order_at trail s.first)
+
+-- the sum over orders of a function of their ends, distinguished by what is asked for
+abbrev pub sum_of_ends : Search → (Option Left → ℕ) → List (List ℕ) → ℕ
+sum_of_ends search f drawn =
+    sum_by (λ (order : List ℕ). f (option_map (seen search.asked.now.cells) (end_in search.program.now search.turns search.asked.now.answers order))) drawn
+
 -- the ends of k orders
 pub record AreEndsOf (search : Search) (drawing : Drawing) (k : ℕ) : Type 0 where
   pub back : undone drawing.walk.overwritten.items drawing.walk.heap ≡ opening_heap search.program.now
   pub opening : drawing.ends.opening ≡ seen_cells search.asked.now.cells (opening_heap search.program.now)
-  pub ends : AreEnds search drawing.trail drawing.ends.states
-  pub count : orders_to drawing.ends.states ≡ k
   pub begun : IsBegun drawing.trail
+  pub count : orders_to drawing.ends.states ≡ k
+  -- these orders
+  pub drawn : List (List ℕ)
+  pub are_orders : All (Contains (orders search.program.now)) drawn
+  pub as_many : length drawn ≡ k
+  pub ends : AreApart (IsDrawnEnd search drawing.trail drawn) drawing.ends.states
+  pub counts : (f : Option Left → ℕ) → counted_in (λ (left : Left). f (Some left)) drawing.ends.states ≡ sum_of_ends search f drawn
