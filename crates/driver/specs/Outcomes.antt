@@ -80,14 +80,15 @@ abbrev pub ended_by : Option Told → Status
 ended_by None = Done
 ended_by (Some breach) = Unexpected
 
--- out reports the ends of all orders, the number of states on them, and whether the ends are as expected; err is empty
+-- there are at most the given number of orders, or no call: out reports the ends of all orders, the number of states on
+-- them, and whether the ends are as expected; err is empty
 pub record TellsAll (looking : OutcomesOptions) (program : Typed) (status : Status) (out err : List ℕ) : Type 0 where
   pub expected : Option Expected
   pub is_expected : IsExpected program (text_given looking) expected
   pub asked : Asked
   pub is_asked : IsAsked looking program expected asked
   pub ends : List Told
-  pub all : AreAllEnds program looking.turns asked ends
+  pub all : AreAllEnds program looking.turns looking.count asked ends
   pub states : ℕ
   pub counted : HasConfigurations program asked.answers states
   pub ended : status ≡ ended_by (breach_of expected asked ends)

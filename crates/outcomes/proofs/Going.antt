@@ -21,7 +21,7 @@ use Rattle.outcomes.specs.Working.Trails.{longer}
 use Rattle.outcomes.specs.Working.Searching.{left_after, order_at, IsGood, AreGood, weight, total, Summand, IsFound, IsAdded}
 use Rattle.outcomes.specs.Working.Steps.{IsOver, IsBack, Visits, IsAtWork, state_in, IsReached, Growth, made_by, made_below, made_from}
 use Rattle.outcomes.specs.Working.Steps.{made_from_all, GoesOn, IsStop, HasTooMany, WeighsAll, one, start_of}
-use Rattle.outcomes.proofs.Sums.{sum_with, sum_without, sum_more, total_found, total_added}
+use Rattle.outcomes.proofs.Sums.{sum_with, sum_without, sum_more, total_found, total_added, orders_found, orders_added}
 use Rattle.outcomes.proofs.Full.{has_order}
 use Rattle.outcomes.proofs.Leading.{good_longer, longer_again, good_child, good_found, good_added}
 
@@ -74,6 +74,7 @@ goes_visited search old mid state g visits work none =
           opening = ap (λ (l : Layered). l.opening) visits.next ∙ work.back.opening;
           back = visits.back ∙ work.back.opening;
         };
+        few = (let same : orders_to mid.next.states ≡ orders_to old.next.states = ap orders_to states in let few = work.few in omega (arith, same, few));
         states = subst (λ (d : ℕ). AreGood program search.turns (suc d) (start_of search) mid.trail mid.next.states) (sym visits.depth)
             (subst (λ (t : List (List ℕ)). AreGood program search.turns (suc old.depth) (start_of search) t mid.next.states) (sym visits.trail)
             (subst (AreGood program search.turns (suc old.depth) (start_of search) old.trail) (sym states) work.states));
@@ -114,13 +115,13 @@ grown_added old new trail trail' done heap more from thread added =
 pub goes_step : (search : Search) (old new : Work) (cells : List Value) (from : State) (t : ℕ) (call : Invocation) (outcome : Outcome) →
     IsAtWork search old → IsReached search old from → next_call search.program.now from.done.items t ≡ Some call →
     IsOver search.program.now search.turns call (state_in search from).left.cells cells outcome →
-    new.depth ≡ old.depth → IsBack search new →
+    new.depth ≡ old.depth → IsBack search new → orders_to old.next.states + from.orders ≤ search.most →
     (IsFound old.next.states new.next.states old.trail new.trail (one_more from.done.items t)
     (left_with cells (answered search.program.now from.done.items t outcome from.answers.items)) from.orders
     ⊎ IsAdded old.next.states new.next.states old.trail new.trail (one_more from.done.items t)
     (left_with cells (answered search.program.now from.done.items t outcome from.answers.items)) from.orders from.first t) →
     GoesOn search old new (made_by search from t)
-goes_step search old new cells from t call outcome work reached next over deep back put =
+goes_step search old new cells from t call outcome work reached next over deep back room put =
     let program = search.program.now in
     let n = search.turns in
     let start = start_of search in
@@ -138,10 +139,15 @@ goes_step search old new cells from t call outcome work reached next over deep b
     λ f left. ap (λ (x : ℕ). from.orders * x)
     (ap (weight program n f left (one_more from.done.items t)) heap_is
     ∙ sym (sum_with program n left f from.done.items (state_in search from).left t call over.finished next over.over)) in
+    let sum : orders_to new.next.states ≡ orders_to old.next.states + from.orders = elim put [
+      | inl found ↦ orders_found old.next.states new.next.states old.trail new.trail (one_more from.done.items t) heap from.orders found
+      | inr added ↦ orders_added old.next.states new.next.states old.trail new.trail (one_more from.done.items t) heap from.orders from.first t added
+    ] in
     record {
       depth = deep;
       work = record {
         back = back;
+        few = omega (arith, sum, room);
         states = subst (λ (d : ℕ). AreGood program n (suc d) start new.trail new.next.states) (sym deep) (elim put [
           | inl found ↦ good_found program n (suc old.depth) start old.trail new.trail old.next.states new.next.states (one_more from.done.items t) heap from.orders found work.states
           | inr added ↦ good_added program n (suc old.depth) start old.trail new.trail old.next.states new.next.states (one_more from.done.items t) heap from.orders from.first t added

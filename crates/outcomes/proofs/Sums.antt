@@ -100,3 +100,9 @@ orders_found old new trail trail' done left more found =
     let s = at old found.number in
     let sums = sum_by-set (λ (r : Reached). r.orders) old found.number (with_more s more) nowhere found.within in
     ap orders_to found.states ∙ omega (arith, sums)
+
+pub orders_added : (old new : List Reached) (trail trail' : List (List ℕ)) (done : List ℕ) (left : Left) (more from thread : ℕ) →
+    IsAdded old new trail trail' done left more from thread → orders_to new ≡ orders_to old + more
+orders_added old new trail trail' done left more from thread added =
+    ap orders_to added.states
+    ∙ sum_by_push (λ (r : Reached). r.orders) old (record { done = done; left = left; orders = more; first = length trail })

@@ -1,5 +1,5 @@
 -- The search from its begin to its end.
-use Rattle.std.proofs.Common.{◌≡◌, ◌∙◌, ◌≢◌, ℕ, ◌+◌, ◌-◌, ◌*◌, ◌<◌, zero, suc, Bool, true, false, cond, List, [], ◌∷◌}
+use Rattle.std.proofs.Common.{◌≡◌, ◌∙◌, ◌≢◌, ℕ, ◌+◌, ◌-◌, ◌*◌, ◌<◌, ◌≤◌, zero, suc, Bool, true, false, cond, List, [], ◌∷◌}
 use Rattle.std.proofs.Common.{◌++◌, length, map, get_or, Option, Some, None, sum_by, nat_eq, ap, sym, subst, refl}
 use Rattle.std.proofs.Common.{arith, ◌⊎◌, inl, inr, append-nil}
 use Rattle.std.proofs.lemmas.Bool.Decides.{Decides-eqb}
@@ -25,7 +25,7 @@ use Rattle.outcomes.specs.declared.outcome.Asked.{Asked}
 use Rattle.outcomes.specs.declared.outcome.Cells.{Cells}
 use Rattle.std.specs.Option.{option_map}
 use Rattle.outcomes.specs.Working.Changes.{same_value}
-use Rattle.outcomes.specs.Working.States.{Reached, left_with, at, nowhere}
+use Rattle.outcomes.specs.Working.States.{Reached, left_with, at, nowhere, orders_to}
 use Rattle.outcomes.specs.Working.Searching.{order_at, IsGood, AreGood, weight, total, as_told, Summand}
 use Rattle.outcomes.specs.Working.Steps.{GoesOn, Growth, made_from_all, opening_state, IsBeyond, HasTooMany, one}
 use Rattle.outcomes.specs.Working.Steps.{start_of, IsEnd, AreEnds, AreEndsOfStates, AreToldOfStates}
@@ -435,17 +435,38 @@ every_end settled once program n asked told counts order left ends =
     let term = some_term (λ (e : Told). cond (ends_as (see left) (Some e.left)) e.count 0) told (omega (arith, some, e)) in
     (term.0, term.1, term.2, term.3, left_is term.1.left (see left) (passed (same_left term.1.left (see left)) term.1.count term.4))
 
+-- ---- the number of orders
+
+count_ones : (orders : List (List ℕ)) → sum_by (λ (order : List ℕ). 1) orders ≡ length orders
+count_ones [] = refl
+count_ones (o ∷ os) = sum_by-cons (λ (order : List ℕ). 1) o os ∙ ap (λ (k : ℕ). 1 + k) (count_ones os) ∙ omega arith
+
+once_more : (k : ℕ) → k ≡ k * (0 + 1)
+once_more k = omega arith
+
+-- if all calls are done, the orders that lead to the states are all orders
+orders_all : (search : Search) (layer : List Reached) →
+    ((f : Summand) → total search.program.now search.turns f 0 layer
+    ≡ weight search.program.now search.turns f (calls_together search.program.now.threads.items) (none_done search.program.now) (start_of search)) →
+    orders_to layer ≡ length (orders search.program.now)
+orders_all search layer sums =
+    same_sum (λ (s : Reached). s.orders) (λ (s : Reached). s.orders * weight search.program.now search.turns one 0 s.done s.left) layer (λ s. once_more s.orders)
+    ∙ sums one ∙ count_ones (orders search.program.now)
+
 -- ---- all together
 
 pub are_all_ends : OverIsWhole → SettledAreSerial → HaveAtMostOneSerial →
     (search : Search) (trail : List (List ℕ)) (layer : List Reached) (told : List Told) →
     ((f : Summand) → total search.program.now search.turns f 0 layer
     ≡ weight search.program.now search.turns f (calls_together search.program.now.threads.items) (none_done search.program.now) (start_of search)) →
-    AreToldOfStates search trail layer told → AreAllEnds search.program.now search.turns search.asked.now told
-are_all_ends law settled once search trail layer told sums is =
+    (orders_to layer ≤ search.most) ⊎ (calls_together search.program.now.threads.items ≡ 0) →
+    AreToldOfStates search trail layer told → AreAllEnds search.program.now search.turns search.most search.asked.now told
+are_all_ends law settled once search trail layer told sums few is =
     let ends = is.0 in
     let counts = counts_told search trail layer ends is.1 sums in
-    subst (AreAllEnds search.program.now search.turns search.asked.now) (sym is.2) (record {
+    let all = orders_all search layer sums in
+    subst (AreAllEnds search.program.now search.turns search.most search.asked.now) (sym is.2) (record {
+      few = elim few [ inl room ↦ inl (omega (arith, all, room)) | inr none ↦ inr none ];
       each = all_end law search trail ends is.1.are;
       apart = ends_apart search trail ends is.1.are;
       counts = counts;
@@ -453,10 +474,6 @@ are_all_ends law settled once search trail layer told sums is =
     })
 
 -- ---- more orders than the limit
-
-count_ones : (orders : List (List ℕ)) → sum_by (λ (order : List ℕ). 1) orders ≡ length orders
-count_ones [] = refl
-count_ones (o ∷ os) = sum_by-cons (λ (order : List ℕ). 1) o os ∙ ap (λ (k : ℕ). 1 + k) (count_ones os) ∙ omega arith
 
 pub too_many : (search : Search) (old : Work) (layer : List Reached) (calls depth : ℕ) →
     HasTooMany search old (made_from_all search layer) → old.next.states ≡ [] → old.depth ≡ depth →

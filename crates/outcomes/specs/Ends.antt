@@ -1,5 +1,5 @@
 -- The possible ends of the cells and the calls of a program.
-use Rattle.std.specs.Prelude.{◌≡◌, ◌≢◌, ℕ, ◌<◌, Bool, true, false, List, [], ◌∷◌, if◌then◌else◌, length, map}
+use Rattle.std.specs.Prelude.{◌≡◌, ◌≢◌, ℕ, ◌<◌, ◌≤◌, ◌⊎◌, Bool, true, false, List, [], ◌∷◌, if◌then◌else◌, length, map}
 use Rattle.std.specs.Prelude.{All, AllPairs, Any, Contains, count_by, sum_by, replicate, Option, Some, None, option_map, slice_set}
 use Rattle.std.specs.Prelude.{slice_index, slice_index_or}
 use Rattle.core_lang.specs.declared.value.Value.{Value}
@@ -112,7 +112,9 @@ TellsCounts program n asked given told =
     ≡ told_count test told
 
 -- the report has the ends of all orders, each once, with the number of orders that lead to it
-pub record AreAllEnds (program : Typed) (n : ℕ) (asked : Asked) (told : List Told) : Type 0 where
+pub record AreAllEnds (program : Typed) (n most : ℕ) (asked : Asked) (told : List Told) : Type 0 where
+  -- the program has at most `most` orders, or no call
+  pub few : (length (orders program) ≤ most) ⊎ (calls_together program.threads.items ≡ 0)
   -- each end is that of its reported order
   pub each : All (IsEndOf program asked) told
   -- no two ends are equal
@@ -217,7 +219,7 @@ HasSomeConfigurations program answers count =
 -- ends of orders that were drawn. `Unsettled`: an order after which n turns don't settle the next call of a thread
 abbrev pub Finds : Typed → ℕ → ℕ → Asked → Found → Type 0
 Finds program n most asked (found.All ends configurations) =
-    AreAllEnds program n asked (map told_of ends.items) × HasConfigurations program asked.answers configurations
+    AreAllEnds program n most asked (map told_of ends.items) × HasConfigurations program asked.answers configurations
 Finds program n most asked (found.Reduced ends configurations) =
     AreEndsOfAll program n most asked (map told_of ends.items) × HasSomeConfigurations program asked.answers configurations
 Finds program n most asked (found.Drawn ends) = AreDrawnEnds program n most asked (map told_of ends.items)

@@ -23,7 +23,7 @@ use Rattle.outcomes.specs.Orders.{next_call, one_more, none_done, orders, orders
 use Rattle.outcomes.specs.Ends.{Left, Told, opening_left, seen}
 use Rattle.outcomes.specs.Ends.{Finds}
 use Rattle.outcomes.specs.Working.Changes.{applied}
-use Rattle.outcomes.specs.Working.States.{Layered, Reached, left_with, at, reached_of, with_more, IsAlike, NoneIsAlike}
+use Rattle.outcomes.specs.Working.States.{Layered, Reached, left_with, at, reached_of, with_more, IsAlike, NoneIsAlike, orders_to}
 use Rattle.outcomes.specs.Working.Trails.{IsLonger}
 use Rattle.outcomes.specs.Working.Searching.{Leads, order_at, IsGood, AreGood, sum_over, weight, total, IsFound, IsAdded}
 use Rattle.outcomes.specs.Working.Searching.{Summand, AreApart, as_told}
@@ -90,9 +90,11 @@ pub record IsBack (search : Search) (work : Work) : Type 0 where
   pub opening : work.next.opening ≡ opening_heap search.program.now
   pub back : undone work.overwritten.items work.heap ≡ opening_heap search.program.now
 
--- a layer is being made: its states are reached by one more call than those of the layer before
+-- a layer is being made: its states are reached by one more call than those of the layer before, and no more orders
+-- lead to them than the limit
 pub record IsAtWork (search : Search) (work : Work) : Type 0 where
   pub back : IsBack search work
+  pub few : orders_to work.next.states ≤ search.most
   pub states : AreGood search.program.now search.turns (suc work.depth) (start_of search) work.trail work.next.states
 
 -- a state of the layer before

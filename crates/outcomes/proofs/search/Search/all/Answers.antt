@@ -1,4 +1,4 @@
-use Rattle.std.proofs.Common.{◌≡◌, ◌∙◌, ℕ, ◌+◌, ◌-◌, List, [], ◌++◌, length, map, ap, sym, subst, refl, arith, rules}
+use Rattle.std.proofs.Common.{◌≡◌, ◌∙◌, ℕ, ◌+◌, ◌-◌, List, [], ◌++◌, length, map, inl, inr, ap, sym, subst, refl, arith, rules}
 use Rattle.core_lang.specs.WellFormed.{calls_together}
 use Rattle.outcomes.specs.Working.Steps.{start_of, made_from_all}
 use Rattle.outcomes.specs.declared.search.Work.{Work}
@@ -24,6 +24,7 @@ loop-depth-init c =
       opening = search rules;
       layer = good_at_first c.args.self.now c.new-3.result c.in_ok-layer.layer.states c.requires.checked c.new-3.ensures c.in_ok-layer.ensures.states;
       sums = sums_at_first c.args.self.now c.in_ok-layer.layer.states c.in_ok-layer.ensures.states;
+      few = inr refl;
       before = (
         [],
         no_places c.args.self.now.program.now c.args.self.now.turns c.args.self.now.asked.now.answers,
@@ -64,6 +65,7 @@ loop-depth-preserved c =
       sums = λ f left. rw c.replace-layer.ensures.value
           (sums_of_more c.args.self.now old c.expand_all.new.work c.loop-depth.layer.states c.loop-depth.depth goes c.loop-depth.invariant.empty
           c.loop-depth.invariant.sums f left);
+      few = inl (rw c.replace-layer.ensures.value goes.work.few);
       before = rw c.replace-layer.ensures.value (
         c.loop-depth.invariant.before.0 ++ map configuration_of c.loop-depth.layer.states,
         places_more c.settled_are_serial.ensures c.at_most_one_serial.ensures c.args.self.now.program.now c.args.self.now.turns c.args.self.now.asked.now.answers c.loop-depth.depth
@@ -98,6 +100,7 @@ returns c =
       are_all_ends c.whole_within_some_turns.ensures.over c.settled_are_serial.ensures c.at_most_one_serial.ensures c.args.self.now
           c.loop-depth.work.trail c.loop-depth.layer.states _
           (λ f. c.loop-depth.invariant.sums f 0 ∙ ap (λ (k : ℕ). weight program n f k (none_done program) start) here)
+          (elim c.loop-depth.invariant.few [ inl few ↦ inl few | inr none ↦ inr (sym (at_end ∙ c.calls-calls.ensures) ∙ none) ])
           c.in_ok-ends.ensures.told,
       has_places c.whole_within_some_turns.ensures.over c.settled_are_serial.ensures c.at_most_one_serial.ensures program n c.args.self.now.asked.now.answers c.loop-depth.depth
           c.len-configurations.result c.loop-depth.work.trail c.loop-depth.layer.states c.loop-depth.invariant.before.0 (at_end ∙ c.calls-calls.ensures)

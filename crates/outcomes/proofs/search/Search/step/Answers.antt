@@ -105,6 +105,7 @@ returns-clause-steps c =
     ap (λ (l : List Value). left_with l c.in_ok-answers.answers.items) cells ∙ ap (left_with c.run.new.heap) answers in
     let puts = c.in_ok-put.ensures in
     let new = c.put.new.self in
+    let room = rw c.if-not-has_room.false at c.has_room.ensures.few in
     goes_step search work new c.run.new.heap from c.args.thread (invocation c.in-Some.call.now) outcome
     c.requires.work c.requires.from there.next
     (over_from search from (invocation c.in-Some.call.now) work.heap c.run.new.heap outcome c.requires.there over.0)
@@ -115,5 +116,6 @@ returns-clause-steps c =
           ap (λ (w : Vec (ℕ × Value) Global). undone w.items new.heap) puts.overwritten
           ∙ ap (undone work.overwritten.items) (puts.heap ∙ c.take_back.ensures ∙ over.1) ∙ c.requires.work.back.back;
     })
+    (rw c.orders.ensures at room)
     (subst (λ (l : Left). IsFound work.next.states new.next.states work.trail new.trail (one_more xs c.args.thread) l from.orders
     ⊎ IsAdded work.next.states new.next.states work.trail new.trail (one_more xs c.args.thread) l from.orders from.first c.args.thread) left puts.there)
