@@ -17,7 +17,7 @@ use Rattle.lockorder.specs.declared.ranks.Edge as written
 use Rattle.lockorder.specs.Edges.{Makes, MakesFirst, Edge}
 use Rattle.lockorder.specs.Ranks.{AreRanks, LeadTo}
 use Rattle.lockorder.specs.Faults.{cycle_text, second, StartsAt, cycle, HasNoFault, IsFaultAtFirst, at_first}
-use Rattle.lockorder.specs.Faults.{classes_of, AllMakeFirst, IsCycleOf}
+use Rattle.lockorder.specs.Faults.{classes_of, AllMakeFirst, IsCycleOf, IsFaultOf}
 use Rattle.lockorder.proofs.Rising.{ranks_rise, no_cycle}
 use Rattle.lockorder.proofs.Bridge.{edge_within}
 
@@ -46,13 +46,23 @@ module _ (program : Typed) where
   first_makes (x ∷ rest) first h e =
       subst (λ (y : written.Edge). (d : ℕ) × Makes program y.section y.used y.bound y.class d) (sym e) (second x.class (classes_of rest), (head_makes x rest h.1).makes)
 
-  pub is_fault : (edges : List written.Edge) (first : written.Edge) (fault : Fault) → IsCycleOf program edges →
+  pub fault_of : (edges : List written.Edge) (first : written.Edge) (fault : Fault) → IsCycleOf program edges →
       first ≡ get_or edges 0 first →
-      StartsAt program first.section first.used fault.start → fault.code ≡ LockOrderCycle → string_bytes fault.detail ≡ cycle_text program (classes_of edges) → IsFaultAtFirst program fault
-  is_fault [] first fault h e starts code detail = absurd h
-  is_fault (x ∷ rest) first fault h e starts code detail =
+      StartsAt program first.section first.used fault.start → fault.code ≡ LockOrderCycle → string_bytes fault.detail ≡ cycle_text program (classes_of edges) → IsFaultOf program edges fault
+  fault_of [] first fault h e starts code detail = absurd h
+  fault_of (x ∷ rest) first fault h e starts code detail = record {
+    starts = subst (λ (y : written.Edge). StartsAt program y.section y.used fault.start) e starts;
+    code = code;
+    detail = detail;
+  }
+
+  -- the fault of a cycle's edges is at the first point that makes the first of them
+  pub is_at_first : (edges : List written.Edge) (fault : Fault) → IsCycleOf program edges → IsFaultOf program edges fault →
+      IsFaultAtFirst program fault
+  is_at_first [] fault h is = absurd h
+  is_at_first (x ∷ rest) fault h is =
       at_first x.class (classes_of rest) x.section x.used x.bound (h.0, leads x.class (x ∷ rest) h.1) (head_makes x rest h.1)
-      (subst (λ (y : written.Edge). StartsAt program y.section y.used fault.start) e starts) code detail
+      is.starts is.code is.detail
 
   pub used_within : (number used bound c d : ℕ) (s : Section) (items : List PointRef) →
       Makes program number used bound c d → s ≡ get_or program.sections.items number s →

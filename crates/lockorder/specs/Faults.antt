@@ -74,6 +74,18 @@ abbrev pub IsCycleOf : Typed → List written.Edge → Type 0
 IsCycleOf program [] = ⊥
 IsCycleOf program (e ∷ rest) = AreDistinct (classes_of (e ∷ rest)) × AllMakeFirst program e.class (e ∷ rest)
 
+-- the statement of the first edge's use starts at this byte
+abbrev pub StartsAtUse : Typed → List written.Edge → ℕ → Type 0
+StartsAtUse program [] start = ⊥
+StartsAtUse program (e ∷ rest) start = StartsAt program e.section e.used start
+
+-- the fault of these edges: it names their classes in this order, and is at the use of the first one. If they are a
+-- cycle, `IsFaultAtFirst` follows
+pub record IsFaultOf (program : Typed) (edges : List written.Edge) (fault : Fault) : Type 0 where
+  pub starts : StartsAtUse program edges fault.start
+  pub code : fault.code ≡ LockOrderCycle
+  pub detail : string_bytes fault.detail ≡ cycle_text program (classes_of edges)
+
 -- the refusal names a cycle, or is the failure of an allocation
 abbrev pub IsRefusal : Typed → OrderRefusal → Type 0
 IsRefusal program refusal.NoMemory = ⊤

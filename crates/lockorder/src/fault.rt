@@ -1,7 +1,7 @@
 //! The fault of a cycle.
 
 ghost use Rattle.std.specs.Prelude.{◌≡◌, IfOk};
-ghost use Rattle.lockorder.specs.Faults.{IsCycleOf, IsFaultAtFirst};
+ghost use Rattle.lockorder.specs.Faults.{IsCycleOf, IsFaultAtFirst, IsFaultOf};
 
 use crate::ranks::Cycle;
 use crate::text::cycle_text;
@@ -16,7 +16,8 @@ impl Cycle {
     /// the lowest section that makes the edge. Its detail is the classes, as `A.l -> B.m -> A.l`.
     pub fn fault(&self, alloc: Global, program: &Typed) -> Result<Fault, NoMemory>
         requires { IsCycleOf program.now self.now.edges.items }
-        ensures { IfOk result (IsFaultAtFirst program.now) }
+        ensures first { IfOk result (IsFaultAtFirst program.now) }
+        ensures of_cycle { IfOk result (IsFaultOf program.now self.now.edges.items) }
     {
         let first = self.edges[0];
         let points = points_of(alloc, &program.sections[first.section])?;
