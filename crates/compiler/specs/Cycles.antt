@@ -3,7 +3,7 @@ use Rattle.std.specs.Prelude.{◌≡◌, ℕ, List, [], string_bytes}
 use Rattle.core_lang.specs.declared.typed.Typed.{Typed}
 use Rattle.core_lang.specs.WellFormed.{IsWellFormed}
 use Rattle.core_lang_helpers.specs.Data.{IsExpanded}
-use Rattle.lockorder.specs.Faults.{IsCycleOf, IsFaultAtFirst}
+use Rattle.lockorder.specs.Faults.{IsCycleOf, IsFaultOf}
 use Rattle.lockpaths.specs.Paths.{ArePaths}
 use Rattle.resolution.specs.Resolved.{Resolves}
 use Rattle.source.specs.declared.fault.Refusal.{Refusal}
@@ -36,5 +36,5 @@ pub record IsCyclic (source : List ℕ) (cyclic : Cyclic) : Type 0 where
   pub well_formed : IsWellFormed (program_of cyclic.trees)
   pub paths : ArePaths (program_of cyclic.trees) cyclic.paths
   pub cycle : IsCycleOf (program_of cyclic.trees) cyclic.edges.items
-  pub told : IsFaultAtFirst (program_of cyclic.trees) cyclic.fault
+  pub told : IsFaultOf (program_of cyclic.trees) cyclic.edges.items cyclic.fault
   pub first : IsOfFirstPass source cyclic.fault

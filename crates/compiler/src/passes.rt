@@ -3,7 +3,7 @@
 ghost use Rattle.std.specs.Prelude.{◌≡◌, IfOk, IfErr};
 ghost use Rattle.core_lang.specs.WellFormed.{IsChecked, IsWellFormed};
 ghost use Rattle.core_lang_helpers.specs.Data.{IsExpanded};
-ghost use Rattle.lockorder.specs.Faults.{IsCycleOf, IsFaultAtFirst};
+ghost use Rattle.lockorder.specs.Faults.{IsCycleOf, IsFaultAtFirst, IsFaultOf};
 ghost use Rattle.lockpaths.specs.Paths.{ArePaths};
 ghost use Rattle.lowering.specs.Plans.{IsCompiled};
 ghost use Rattle.lowering.specs.Working.Compiled.{program_of};
@@ -109,7 +109,8 @@ fn with_cycle(alloc: Global, trees: Trees, paths: Paths, cycle: Cycle) -> Result
     ensures trees { IfOk result (λ found. found.trees ≡ trees) }
     ensures paths { IfOk result (λ found. found.paths ≡ paths) }
     ensures cycle { IfOk result (λ found. IsCycleOf (program_of trees) found.edges.items) }
-    ensures fault { IfOk result (λ found. IsFaultAtFirst (program_of trees) found.fault) }
+    ensures first { IfOk result (λ found. IsFaultAtFirst (program_of trees) found.fault) }
+    ensures told { IfOk result (λ found. IsFaultOf (program_of trees) found.edges.items found.fault) }
     ensures memory { IfErr result IsForMemory }
 {
     match cycle.fault(alloc, trees.program()) {

@@ -2,7 +2,7 @@ use Rattle.std.proofs.Common.{◌≡◌, ◌∙◌, ap, sym, subst, subst₂}
 use Rattle.std.proofs.lemmas.Result.{err_from_is_err_and}
 use Rattle.core_lang.specs.WellFormed.{IsChecked, IsWellFormed}
 use Rattle.core_lang_helpers.specs.Data.{IsExpanded}
-use Rattle.lockorder.specs.Faults.{IsCycleOf, IsFaultAtFirst}
+use Rattle.lockorder.specs.Faults.{IsCycleOf, IsFaultOf}
 use Rattle.lowering.specs.declared.compiled.Trees.{Trees}
 use Rattle.lowering.specs.Working.Compiled.{program_of}
 use Rattle.resolution.specs.Resolved.{Resolves}
@@ -93,8 +93,8 @@ returns-in-Ok-with_cycle-clause-cycle c =
       well_formed = subst IsWellFormed (sym same) c.in_ok-trees.ensures.well_formed;
       paths = rw (same, c.in-Ok-with_cycle.ensures.paths, ← c.program.ensures) c.in_ok-found.ensures.paths;
       cycle = subst (λ p. IsCycleOf p c.in-Ok-with_cycle.cyclic.edges.items) (sym same) c.in-Ok-with_cycle.ensures.cycle;
-      told = subst (λ p. IsFaultAtFirst p c.in-Ok-with_cycle.cyclic.fault) (sym same) c.in-Ok-with_cycle.ensures.fault;
+      told = subst (λ p. IsFaultOf p c.in-Ok-with_cycle.cyclic.edges.items c.in-Ok-with_cycle.cyclic.fault) (sym same) c.in-Ok-with_cycle.ensures.told;
       first = in_order _ _ _ _ c.in_ok-tokens.ensures.refused c.in_ok-tokens.ensures.found
           (λ code start. tokens_faultless _ _ _ code start c.in_ok-tokens.ensures.found right placed) right c.in_ok-accepted.ensures.faultless
-          c.in_ok-accepted.ensures.resolves c.in_ok-trees.ensures.expanded (rw c.program.ensures at c.in_ok-found.ensures.faultless) c.in-Ok-with_cycle.ensures.fault;
+          c.in_ok-accepted.ensures.resolves c.in_ok-trees.ensures.expanded (rw c.program.ensures at c.in_ok-found.ensures.faultless) c.in-Ok-with_cycle.ensures.first;
     }
