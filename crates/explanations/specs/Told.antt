@@ -15,7 +15,7 @@ use Rattle.explanation_faults.specs.TextNotes.{AreTextNotes}
 use Rattle.explanations.specs.TextWarnings.{AreTextWarnings}
 use Rattle.lockorder.specs.declared.ranks.Edge.{Edge}
 use Rattle.lockorder.specs.Edges.{AreRanksOf}
-use Rattle.lockorder.specs.Faults.{IsCycleOf, IsFaultAtFirst}
+use Rattle.lockorder.specs.Faults.{IsCycleOf, IsFaultOf}
 use Rattle.source.specs.declared.fault.Fault.{Fault}
 use Rattle.explanations.specs.declared.telling.Diagnosis as written
 use Rattle.explanations.specs.declared.telling.Diagnosis.TheVariants as variant
@@ -37,16 +37,16 @@ pub record IsExplained (text : List ℕ) (fault : Fault) (notes : List Note) (fu
   pub tell : AreTextNotes text fault.code fault.start notes
   pub others : AreFurther text fault.code fault.start further
 
--- a fault of the order of locks, notes on each edge of a cycle of the program that the text means, and on the calls of
--- helpers that lead from its sections to the places of the edges
+-- the fault of a cycle of lock classes of the program that the text means, notes on each edge of this cycle, and on the
+-- calls of helpers that lead from the program's sections to the places of the edges
 pub record IsCycleExplained (text : List ℕ) (fault : Fault) (notes : List Note) : Type 0 where
   pub given : IsOfFirstPass text fault
   pub accepted : Typed
   pub program : Typed
   pub meant : IsWrittenProgram text accepted program
-  pub of_order : IsFaultAtFirst program fault
   pub edges : List Edge
   pub cycle : IsCycleOf program edges
+  pub of_cycle : IsFaultOf program edges fault
   pub of_edges : List Note
   pub tell : AreCycleNotes program edges of_edges
   pub whole : notes ≡ of_edges ++ cycle_calls accepted program edges
