@@ -19,10 +19,8 @@ use Rattle.explanation.specs.Notes.{Note, note_text, told_text}
 use Rattle.explanation_faults.specs.TextNotes.{IsTextLimit, source, a_name, IsTrueTextNote, of_tree, of_tokens}
 use Rattle.explanation_faults.specs.TextNotes.{of_advice, of_mark}
 use Rattle.explanation_faults.specs.TextNotes.{of_limit as of_text_limit, AreTextNotes}
-use Rattle.core_lang.specs.declared.typed.Typed.{Typed}
-use Rattle.lockorder.specs.Faults.{IsFaultAtFirst, at_first}
 use Rattle.source.specs.declared.fault.Code.{Code}
-use Rattle.source.specs.declared.fault.Code.TheVariants.{LimitExceeded}
+use Rattle.source.specs.declared.fault.Code.TheVariants.{LimitExceeded, LockOrderCycle}
 use Rattle.source.specs.declared.fault.Fault.{Fault}
 use Rattle.source.specs.Faults.{fault_text}
 use Rattle.source.specs.Texts.{SOURCE_LIMIT}
@@ -121,8 +119,8 @@ alone_of_long : {text : List ℕ} {code : Code} {at : ℕ} {further : Further} �
 alone_of_long long (others few has are behind) = absurd (omega arith)
 alone_of_long long (none_behind other) = refl
 
-pub no_cycle : (program : Typed) (fault : Fault) → fault.code ≡ LimitExceeded → IsFaultAtFirst program fault → ⊥
-no_cycle program fault limit (at_first c rest number used bound cycle makes starts code detail) = absurd cc
+pub no_cycle : (fault : Fault) → fault.code ≡ LimitExceeded → fault.code ≡ LockOrderCycle → ⊥
+no_cycle fault limit cycle = absurd cc
 
 module _ (json : Bool) (color : Color) (file t u : List ℕ) (status : Status) (out err : List ℕ) (long : IsLong t) (longer : IsLong u)
     (same : AreAlike file t u) where
@@ -146,7 +144,7 @@ module _ (json : Bool) (color : Color) (file t u : List ℕ) (status : Status) (
         told = none;
       })
   fault_of_long fault notes further (told.cycle_explained is) ended written none =
-      absurd (no_cycle is.program fault (of_limit t fault long is.given) is.of_order)
+      absurd (no_cycle fault (of_limit t fault long is.given) is.of_cycle.code)
 
   not_accepted : (notes : List Note) (warnings : List Warning) → IsToldOf t (accepted notes warnings) → ⊥
   not_accepted notes warnings (told.faultless is) = none_accepted t is.program long is.accepts

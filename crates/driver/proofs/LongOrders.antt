@@ -13,7 +13,7 @@ ordered_of_long : (file t u : List ℕ) (status : Status) (out err : List ℕ) �
     OrderAnswers file t status out err → OrderAnswers file u status out err
 ordered_of_long file t u status out err long longer (ordered is) = absurd (none_accepted t is.program long is.accepts)
 ordered_of_long file t u status out err long longer (cyclic is) =
-    absurd (no_cycle is.program is.fault (of_limit t is.fault long is.given) is.of_order)
+    absurd (no_cycle is.fault (of_limit t is.fault long is.given) is.of_cycle.code)
 ordered_of_long file t u status out err long longer (refused is bare) =
     refused (record {
       fault = is.fault;

@@ -9,7 +9,7 @@ use Rattle.lockorder.specs.declared.ranks.ClassPair.{ClassPair}
 use Rattle.lockorder.specs.declared.ranks.Edge.{Edge}
 use Rattle.lockorder.specs.ClassPairs.{AreClassPairs}
 use Rattle.lockorder.specs.Edges.{AreRanksOf}
-use Rattle.lockorder.specs.Faults.{IsCycleOf, IsFaultAtFirst}
+use Rattle.lockorder.specs.Faults.{IsCycleOf, IsFaultOf}
 use Rattle.report_check.specs.Order.{order_text, cyclic_order_text}
 use Rattle.source.specs.declared.fault.Fault.{Fault}
 use Rattle.source.specs.Faults.{fault_text}
@@ -32,17 +32,17 @@ pub record IsOrderGraph (text : List ℕ) (status : Status) (out err : List ℕ)
   pub written : out ≡ order_text text written_out ranks pairs
   pub told : err ≡ []
 
--- the text has a fault of the order of locks: out has the pairs of the program that the text means, with the edges of a
--- cycle marked; the fault's line is reported
+-- the text's fault is that of a cycle of lock classes: out has the pairs of the program that the text means, with the
+-- edges of this cycle marked; the fault's line is reported
 pub record IsCyclicGraph (file text : List ℕ) (status : Status) (out err : List ℕ) : Type 0 where
   pub fault : Fault
   pub given : IsOfFirstPass text fault
   pub accepted : Typed
   pub program : Typed
   pub meant : IsWrittenProgram text accepted program
-  pub of_order : IsFaultAtFirst program fault
   pub edges : List Edge
   pub cycle : IsCycleOf program edges
+  pub of_cycle : IsFaultOf program edges fault
   pub pairs : List ClassPair
   pub are : AreClassPairs program pairs
   pub ended : status ≡ Refused
