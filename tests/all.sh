@@ -4,7 +4,7 @@
 # longer.
 #
 #     tests/all.sh            the gate
-#     tests/all.sh BIN        all but the proofs, over that program
+#     tests/all.sh BIN        all but the proofs, over that program, with fewer random programs
 #
 # The last line is 'N passed, M failed'; the status is 1 where M is not 0. What the gate of a commit came to is kept in
 # out/gate, for script/release.sh.
@@ -15,18 +15,49 @@ room=$(mktemp -d)
 trap 'rm -rf "$room"' EXIT
 passed=0
 failed=0
+number=0
+others=()
 
-# A test, by its words. What it writes is told where it fails.
-try() {
-    local begun=$SECONDS
-    if "$@" >"$room/said" 2>&1; then
-        passed=$((passed + 1))
-        echo "ok ${*/#$program/BIN}, $((SECONDS - begun)) s: $(tail -n 1 "$room/said")"
+# Runs the test of this number, by its words. What it writes is told where it fails.
+run_test() {
+    local said=$room/said.$1 failure=$room/failed.$1 begun=$SECONDS
+    shift
+    if "$@" >"$said" 2>&1; then
+        echo "ok ${*/#$program/BIN}, $((SECONDS - begun)) s: $(tail -n 1 "$said")"
     else
-        failed=$((failed + 1))
-        grep -v '^ok ' "$room/said" | tail -n 30
-        echo "FAILED ${*/#$program/BIN}"
+        : >"$failure"
+        printf '%s\nFAILED %s\n' "$(grep -v '^ok ' "$said" | tail -n 30)" "${*/#$program/BIN}"
     fi
+}
+
+count() {
+    if [ -e "$room/failed.$1" ]; then
+        failed=$((failed + 1))
+    else
+        passed=$((passed + 1))
+    fi
+}
+
+# A test.
+try() {
+    number=$((number + 1))
+    run_test "$number" "$@"
+    count "$number"
+}
+
+# A test beside others, as many at once as there are processors.
+beside() {
+    while [ "$(jobs -rp | wc -l)" -ge "$(nproc)" ]; do wait -n; done
+    number=$((number + 1))
+    others+=("$number")
+    run_test "$number" "$@" &
+}
+
+# Waits for those.
+gather() {
+    local each
+    wait
+    for each in "${others[@]}"; do count "$each"; done
 }
 
 # (all this is told before the proofs, which take an hour)
@@ -71,38 +102,29 @@ if [ $# = 0 ]; then
     try script/library.py
     try tests/library.py "$program"
 fi
-for script in examples language statuses words limited_memory; do
-    try "tests/$script.sh" "$program"
-done
-try tests/limits.py "$program"
-try tests/rows.py "$program"
-try tests/rows.py "$program" --cuts
-try tests/open.py "$program" examples/*.al
-try tests/life.py "$program"
-try tests/advice.py "$program"
-try tests/codes.py "$program"
-try tests/colors.py "$program"
-try tests/warnings.py "$program"
-try tests/ends_told.py "$program"
-try tests/outcomes.py "$program" --count 40
-try tests/sources.py "$program"
-try tests/runs.py "$program" --times 5 --transfers 200
-try tests/whole_class.py "$program" --times 50 --compiled 10
+programs=300
+[ $# = 0 ] || programs=60
 tests/rows.py --write "$room"
-try tests/failing.py --program "$program" --commands run --every 7 \
+# The longest first.
+beside tests/emit.py "$program" --count "$programs"
+beside tests/rows.py "$program" --cuts
+beside tests/format.py "$program"
+beside tests/pictures.py "$program"
+beside tests/stress.py "$program"
+for script in limited_memory examples language statuses words; do
+    beside "tests/$script.sh" "$program"
+done
+for script in limits rows life advice codes colors warnings ends_told sources fans tutorial scheduled pages lsp lsp_texts nvim; do
+    beside "tests/$script.py" "$program"
+done
+beside tests/open.py "$program" examples/*.al
+beside tests/outcomes.py "$program" --count 40
+beside tests/runs.py "$program" --times 5 --transfers 200
+beside tests/whole_class.py "$program" --times 50 --compiled 10
+beside tests/failing.py --program "$program" --commands run --every 7 \
     "$room"/{lost_update,transfer,null_reference,countdown,shared_owner}.al
-try tests/fans.py "$program"
-try tests/emit.py "$program"
-try tests/pictures.py "$program"
-try tests/tutorial.py "$program"
-try tests/items.py --program "$program" --count 2
-try tests/scheduled.py "$program"
-try tests/stress.py "$program"
-try tests/pages.py "$program"
-try tests/format.py "$program"
-try tests/lsp.py "$program"
-try tests/lsp_texts.py "$program"
-try tests/nvim.py "$program"
+beside tests/items.py --program "$program" --count 2
+gather
 if [ $# = 0 ] && [ "$failed" = 0 ] && [ -z "$(git status --porcelain 2>/dev/null)" ]; then
     { git rev-parse HEAD && rt version && grep '^rt: ok' "$room/ci" && echo "$passed passed, $failed failed"; } >out/gate
 fi

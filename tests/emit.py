@@ -180,7 +180,7 @@ class Emitted:
     def overlaps(self, name="program"):
         """Many calls began before the one ahead of them ended, where there are processors for that; where a call notes the
         length at its end, some at most do."""
-        program = self.compiled("history", name)
+        program = self.compiled("history", name, ["-include", self.write("yields.h", YIELDS)])
         for _ in range(20):
             calls = CALL.findall(run([program])[1])
             if sum(int(begun) < place for place, (_, _, begun) in enumerate(calls)) > 10:
